@@ -1,0 +1,10 @@
+pub mod Paths
+pub mod Frame
+pub mod Padded
+pub mod Taken
+pub mod Added
+pub mod Copied
+pub mod Weights
+pub mod ArcField
+pub mod PathField
+pub mod Fields

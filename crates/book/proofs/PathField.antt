@@ -1,0 +1,103 @@
+-- The field of a forbidden path, by what its tests say.
+use Prim.Native.Nat.{ℕ, _+_, _-_, _*_, _%_, _≤_, _<_}
+use mathlib.Core.Path.{_≡_, refl, sym, ap, ap₂, _∙_}
+use mathlib.Core.Bool.{Bool, true, false}
+use mathlib.Core.List.{List, [], _∷_, _++_}
+use native.Mathlib.Omega.{arith}
+use borrow.Author.Tests.{lt-ltb, le-ltb}
+use lib.ListN.{length, set, length-set}
+use lib.Seq.{slice, paste, length-slice}
+use Rattle.book.specs.declared.Answer.{Answer}
+use Rattle.book.specs.declared.Answer.the-variants.{Read, Refused}
+use Rattle.book.specs.declared.Counts.{Counts}
+use Rattle.book.specs.declared.Kind.the-variants.{Path}
+use Rattle.book.specs.declared.Refusal.the-variants.{Value, TooMany}
+use Rattle.book.specs.Book.{Book, RuleSet, All, IsPath, WellFormed, allPaths, counts, simple}
+use Rattle.book.specs.BookLaws.{all-map, paths-path}
+use Rattle.book.specs.Reading.{Reading, answer, addPath, endAt, lengthAt, pathAt, taken, kept, proper}
+use Rattle.book.specs.Tables.{ownersFrom, entries, entry, padded, ownerTable, pathTable}
+use Rattle.book.proofs.Added.{counts-path, owners-path, length-owners, entries-path, length-entries}
+use Rattle.book.proofs.Padded.{length-padded, padded-set, padded-entry}
+use Rattle.book.proofs.Taken.{taken-value, taken-many, taken-whole}
+
+-- the owner right after the others'
+owner-added : (o : List ℕ) (k x : ℕ) (ss : List RuleSet) (p : List ℕ) → 1 ≤ length ss → o ≡ ownerTable ss → k ≡ length (allPaths ss) → k < 256 → x ≡ length ss - 1
+    → set o k x ≡ ownerTable (addPath ss p)
+owner-added o k x ss p some-set held count room value =
+    let size = length-owners 0 ss in
+    ap₂ (λ l j. set l j x) held (count ∙ sym size)
+    ∙ padded-set 256 (ownersFrom 0 ss) x (omega (arith, size))
+    ∙ ap (λ y. padded 256 (ownersFrom 0 ss ++ (y ∷ []))) (let last : x ≡ 0 + (length ss - 1) = omega arith in last)
+    ∙ ap (padded 256) (sym (owners-path p 0 ss some-set))
+
+-- the entry right after the others
+entry-added : (e : List ℕ) (k n : ℕ) (ss : List RuleSet) (p : List ℕ) → 1 ≤ length ss → e ≡ pathTable ss → k ≡ length (allPaths ss) → k < 256
+    → All (λ q. length q ≤ 8) (allPaths ss) → n ≡ length p → n ≤ 8
+    → paste (set e (k * 9) n) (k * 9 + 1) p n ≡ pathTable (addPath ss p)
+entry-added e k n ss p some-set held count room short size small =
+    let all : List ℕ = entries (allPaths ss) in
+    let length-all : k * 9 ≡ length all = omega (arith, length-entries (allPaths ss) short) in
+    ap (λ l. paste (set l (k * 9) n) (k * 9 + 1) p n) held
+    ∙ ap₂ (λ j m. paste (set (padded 2304 all) j m) (j + 1) p m) length-all size
+    ∙ padded-entry 2304 all p (omega arith) (omega arith)
+    ∙ ap (padded 2304) (sym (entries-path (allPaths ss) p) ∙ ap entries (sym (paths-path p ss some-set)))
+
+module _ (c : Counts) (s : List ℕ) (b : Book) (at : ℕ) (so-far : c ≡ counts b) (w : WellFormed b) (o e : List ℕ) (owners-held : o ≡ ownerTable (b .sets)) (paths-held : e ≡ pathTable (b .sets)) where
+  value-is : (x : Bool) → simple (c .vertices) (pathAt s at) ≡ x → proper Path s b at ≡ x
+  value-is x q = ap (λ (d : Counts). simple (d .vertices) (pathAt s at)) (sym so-far) ∙ q
+
+  -- the bytes that were copied, in the definition's terms
+  pub copied : (r : ℕ) → r ≡ endAt s at → c .paths < 256 → lengthAt s at ≤ 8 → (e′ : List ℕ)
+      → let n = r - (at + 3) in
+        let e₀ = set e (c .paths * 9) (n % 256) in
+        (c .paths * 9 + 1 + n ≤ length e₀ → e′ ≡ paste e₀ (c .paths * 9 + 1) (slice (at + 3) (at + 3 + n) s) n)
+      → e′ ≡ paste (set e (c .paths * 9) (lengthAt s at % 256)) (c .paths * 9 + 1) (pathAt s at) (lengthAt s at)
+  copied r end room short e′ copy =
+      let n-is : r - (at + 3) ≡ lengthAt s at = omega arith in
+      let end-is : at + 3 + (r - (at + 3)) ≡ endAt s at = omega arith in
+      let short-paths = all-map (λ (p : List ℕ) (h : IsPath (b .count) p). h .eight) (allPaths (b .sets)) (w .paths-proper) in
+      let size : length e ≡ 2304 =
+          ap length paths-held
+          ∙ length-padded 2304 (entries (allPaths (b .sets))) (omega (arith, length-entries (allPaths (b .sets)) short-paths, w .few-paths)) in
+      copy (simp length-set (omega arith))
+      ∙ ap₂ (λ m t. paste (set e (c .paths * 9) (m % 256)) (c .paths * 9 + 1) (slice (at + 3) t s) m) n-is end-is
+
+  -- what a path's field answers, with what the tables are then
+  abbrev Answers : Answer → List ℕ → List ℕ → Type 0
+  Answers r o′ e′ =
+      (r ≡ answer (taken Path s b at))
+      × (o′ ≡ ownerTable (kept b (taken Path s b at) .sets))
+      × (e′ ≡ pathTable (kept b (taken Path s b at) .sets))
+
+  stays : (r : Reading) → taken Path s b at ≡ r → kept b r ≡ b → Answers (answer r) o e
+  stays r is same =
+      let unmoved : b .sets ≡ kept b (taken Path s b at) .sets = ap (λ (d : Book). d .sets) (sym same) ∙ ap (λ q. kept b q .sets) (sym is) in
+      (sym (ap answer is), owners-held ∙ ap ownerTable unmoved, paths-held ∙ ap pathTable unmoved)
+
+  pub path-improper : simple (c .vertices) (pathAt s at) ≡ false → Answers (Refused (Value at)) o e
+  path-improper q = stays _ (taken-value Path s b at (value-is false q)) refl
+
+  pub path-many : simple (c .vertices) (pathAt s at) ≡ true → 256 ≤ c .paths → Answers (Refused (TooMany at)) o e
+  path-many q many =
+      stays _ (taken-many Path s b at (value-is true q) refl (le-ltb (length (allPaths (b .sets))) 256 (omega (arith, ap (λ (d : Counts). d .paths) so-far)))) refl
+
+  pub path-added : simple (c .vertices) (pathAt s at) ≡ true → c .paths < 256 → 1 ≤ c .sets → endAt s at ≤ length s → lengthAt s at ≤ 8
+      → Answers (Read (record { vertices = c .vertices; arcs = c .arcs; sets = c .sets; paths = c .paths + 1 }))
+        (set o (c .paths) ((c .sets - 1) % 256))
+        (paste (set e (c .paths * 9) (lengthAt s at % 256)) (c .paths * 9 + 1) (pathAt s at) (lengthAt s at))
+  path-added q room some-set whole short =
+      let sets-are : c .sets ≡ length (b .sets) = ap (λ (d : Counts). d .sets) so-far in
+      let paths-are : c .paths ≡ length (allPaths (b .sets)) = ap (λ (d : Counts). d .paths) so-far in
+      let is = taken-whole Path s b at (value-is true q) refl (lt-ltb (length (allPaths (b .sets))) 256 (omega arith)) in
+      let size : length (pathAt s at) ≡ lengthAt s at = length-slice (at + 3) (endAt s at) s whole ∙ omega arith in
+      let owner : (c .sets - 1) % 256 ≡ length (b .sets) - 1 = omega (arith, w .few-sets) in
+      let byte : lengthAt s at % 256 ≡ lengthAt s at = omega arith in
+      (
+        ap Read (counts-path c s b at so-far some-set) ∙ sym (ap answer is),
+        owner-added o (c .paths) _ (b .sets) (pathAt s at) (omega arith) owners-held paths-are room owner
+        ∙ ap (λ r. ownerTable (kept b r .sets)) (sym is),
+        ap (λ m. paste (set e (c .paths * 9) m) (c .paths * 9 + 1) (pathAt s at) (lengthAt s at)) byte
+        ∙ entry-added e (c .paths) (lengthAt s at) (b .sets) (pathAt s at) (omega arith) paths-held paths-are room
+          (all-map (λ p h. h .eight) (allPaths (b .sets)) (w .paths-proper)) (sym size) short
+        ∙ ap (λ r. pathTable (kept b r .sets)) (sym is),
+      )

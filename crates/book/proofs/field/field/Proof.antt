@@ -1,0 +1,168 @@
+-- `field::field` meets its contract: a frame that is refused is the field's refusal, and else the field is that of its kind.
+use borrow.Author.Needs.{needs}
+use borrow.Author.Tests.{eqb-true, leb-true}
+use denote.Ref.{now}
+use mathlib.Core.Bool.{false≢true}
+use mathlib.Core.List.{List}
+use mathlib.Core.Path.{_≡_, sym, ap, subst, _∙_}
+use native.Mathlib.Omega.{arith}
+use Prim.Native.Nat.{ℕ}
+use lib.Dec.{leb}
+use Rattle.book.specs.declared.Answer.{Answer}
+use Rattle.book.specs.declared.Kind.{Kind}
+use Rattle.book.specs.declared.Kind.the-variants.{VertexCount, Arc, RuleSet, Path, Unknown}
+use Rattle.book.specs.Tests.{and-true}
+use Rattle.book.specs.Book.{Book, counts}
+use Rattle.book.specs.BookLaws.{not-zero}
+use Rattle.book.specs.Reading.{answer, lengthAt, taken, kept, field}
+use Rattle.book.specs.Tables.{Tables}
+use Rattle.book.proofs.Fields.{Framed, framed-passed, field-refused, field-taken, tables-count, tables-arc, tables-set, tables-path}
+use Rattle.book.proofs.field.field.Statement.{statement}
+use Rattle.book.proofs.field.field.Tie as tie
+
+frame-requires : tie.Need-frame-requires
+frame-requires c κs = search needs
+
+enum-told : tie.Need-enum-told
+enum-told c = search needs
+
+enum-told-2 : tie.Need-enum-told-2
+enum-told-2 c = search needs
+
+shared-slice-read-kind-of : tie.Need-shared-slice-read-kind-of
+shared-slice-read-kind-of c = search needs
+
+kind-of-requires : tie.Need-kind-of-requires
+kind-of-requires c κs = search needs
+
+enum-told-3 : tie.Need-enum-told-3
+enum-told-3 c = search needs
+
+enum-told-4 : tie.Need-enum-told-4
+enum-told-4 c = search needs
+
+enum-told-5 : tie.Need-enum-told-5
+enum-told-5 c = search needs
+
+enum-told-6 : tie.Need-enum-told-6
+enum-told-6 c = search needs
+
+enum-told-7 : tie.Need-enum-told-7
+enum-told-7 c = search needs
+
+-- the frame is whole, and the field of the kind k
+whole : (c : tie.After-kind-of) (k : Kind) → c .kind-of .result ≡ k
+    → let a = c .before .before .before .before .before .before .args in Framed (now (a .bytes)) (a .at) (a .counts) k
+whole c k is =
+    let told = c .before .before in
+    let a = told .before .before .before .before .args in
+    framed-passed (now (a .bytes)) (a .at) (a .counts) _ k (sym (told .before .before .frame .ensures) ∙ told .enum-told .given .1) (sym is ∙ c .kind-of .ensures)
+
+-- what its kind answers is the field's
+finish : (c : tie.After-kind-of) (k : Kind) → c .kind-of .result ≡ k
+    → let a = c .before .before .before .before .before .before .args in
+      (b : Book) → a .counts ≡ counts b → (x : Answer) (w f o p : List ℕ)
+    → x ≡ answer (taken k (now (a .bytes)) b (a .at)) → Tables (kept b (taken k (now (a .bytes)) b (a .at))) w f o p
+    → (x ≡ answer (field (now (a .bytes)) b (a .at))) × Tables (kept b (field (now (a .bytes)) b (a .at))) w f o p
+finish c k is b so-far x w f o p answers tables =
+    let told = c .before .before in
+    let a = told .before .before .before .before .args in
+    let same : taken k (now (a .bytes)) b (a .at) ≡ field (now (a .bytes)) b (a .at) =
+        sym (field-taken (now (a .bytes)) (a .at) (a .counts) b so-far _ k (sym (told .before .before .frame .ensures) ∙ told .enum-told .given .1) (sym is ∙ c .kind-of .ensures)) in
+    (answers ∙ ap answer same, subst (λ r. Tables (kept b r) w f o p) same tables)
+
+returns : tie.Need-returns
+returns c b so-far w held =
+    let a = c .before .before .before .before .args in
+    let is = sym (field-refused (now (a .bytes)) (a .at) (a .counts) b so-far _ (sym (c .before .before .frame .ensures) ∙ c .enum-told2 .given .1)) in
+    (
+      c .enum-told2 .given .1 ∙ ap answer is,
+      subst (λ r. Tables (kept b r) (now (a .weights)) (now (a .flags)) (now (a .owners)) (now (a .entries))) is held,
+    )
+
+vertex-count-requires : tie.Need-vertex-count-requires
+vertex-count-requires c κs =
+    let here = c .before .before in
+    let a = here .before .before .before .before .before .before .args in
+    let frame = whole here VertexCount (c .enum-told3 .given .1) in
+    omega (arith, frame .whole, eqb-true (lengthAt (now (a .bytes)) (a .at)) 1 (frame .fit))
+
+arc-requires : tie.Need-arc-requires
+arc-requires c κs =
+    let here = c .before .before .before in
+    let start = here .before .before .before .before .before .before in
+    let a = start .args in
+    let frame = whole here Arc (c .before .enum-told4 .given .1) in
+    (omega (arith, frame .whole, eqb-true (lengthAt (now (a .bytes)) (a .at)) 6 (frame .fit)), (start .pre .1 .0, start .pre .1 .1))
+
+rule-set-requires : tie.Need-rule-set-requires
+rule-set-requires c κs =
+    let here = c .before .before .before in
+    let a = here .before .before .before .before .before .before .args in
+    let frame = whole here RuleSet (c .before .enum-told5 .given .1) in
+    omega (arith, frame .whole, eqb-true (lengthAt (now (a .bytes)) (a .at)) 2 (frame .fit))
+
+path-requires : tie.Need-path-requires
+path-requires c κs =
+    let here = c .before .before .before .before in
+    let a = here .before .before .before .before .before .before .args in
+    let frame = whole here Path (c .before .before .enum-told6 .given .1) in
+    let n = lengthAt (now (a .bytes)) (a .at) in
+    (frame .whole, (leb-true n 8 (and-true (leb 2 n) (leb n 8) (frame .fit) .1), not-zero (a .counts .sets) (frame .order)))
+
+returns-2 : tie.Need-returns-2
+returns-2 c b so-far w held =
+    let here = c .before .before .before in
+    let a = here .before .before .before .before .before .before .args in
+    finish here VertexCount (c .before .enum-told3 .given .1) b so-far _ _ _ _ _ (c .vertex-count .ensures b so-far)
+    (tables-count (now (a .bytes)) b (a .at) _ _ _ _ held)
+
+returns-3 : tie.Need-returns-3
+returns-3 c b so-far w held =
+    let here = c .before .before .before .before in
+    let a = here .before .before .before .before .before .before .args in
+    let done = c .arc .ensures b so-far w (held .weights-are) in
+    finish here Arc (c .before .before .enum-told4 .given .1) b so-far _ _ _ _ _ (done .0) (tables-arc (now (a .bytes)) b (a .at) _ _ _ _ _ held (done .1))
+
+returns-4 : tie.Need-returns-4
+returns-4 c b so-far w held =
+    let here = c .before .before .before .before in
+    let a = here .before .before .before .before .before .before .args in
+    let done = c .rule-set .ensures b so-far (held .flags-are) in
+    finish here RuleSet (c .before .before .enum-told5 .given .1) b so-far _ _ _ _ _ (done .0) (tables-set (now (a .bytes)) b (a .at) _ _ _ _ _ held (done .1))
+
+returns-5 : tie.Need-returns-5
+returns-5 c b so-far w held =
+    let here = c .before .before .before .before .before in
+    let a = here .before .before .before .before .before .before .args in
+    let done = c .path .ensures b so-far w (held .owners-are) (held .paths-are) in
+    finish here Path (c .before .before .before .enum-told6 .given .1) b so-far _ _ _ _ _ (done .0)
+    (tables-path (now (a .bytes)) b (a .at) _ _ _ _ _ _ held (done .1) (done .2))
+
+returns-6 : tie.Need-returns-6
+returns-6 c b so-far w held = absurd (false≢true (whole (c .before .before) Unknown (c .enum-told7 .given .1) .order))
+
+pub field-spec : {M : Type 1} → statement M
+field-spec =
+    tie.close
+    (tie.spec
+    frame-requires
+    enum-told
+    enum-told-2
+    returns
+    shared-slice-read-kind-of
+    kind-of-requires
+    enum-told-3
+    vertex-count-requires
+    enum-told-4
+    arc-requires
+    enum-told-5
+    rule-set-requires
+    enum-told-6
+    path-requires
+    enum-told-7
+    returns-2
+    returns-3
+    returns-4
+    returns-5
+    returns-6)

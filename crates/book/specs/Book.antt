@@ -1,0 +1,98 @@
+-- What a book means: its count of vertices, its arcs, and its rule sets.
+use Prim.Native.Nat.{ℕ, _≤_, _<_}
+use mathlib.Core.Path.{_≡_}
+use mathlib.Core.Logic.{_≢_}
+use mathlib.Core.Bool.{Bool, true, false, not, _&&_, _||_}
+use mathlib.Core.List.{List, [], _∷_, _++_}
+use lib.ListN.{length}
+use lib.Dec.{eqb, leb, ltb}
+use Rattle.book.specs.declared.Counts.{Counts}
+
+-- 01: a changeover, with the litres lost to slop as its weight
+pub record Arc : Type 0 where
+  pub tail : ℕ
+  pub head : ℕ
+  pub weight : ℕ
+
+-- 01: a sheet, with the marks that it needs as its flags and its runs as its paths, in the book's order
+pub record RuleSet : Type 0 where
+  pub flags : ℕ
+  pub paths : List (List ℕ)
+
+-- 01: a book. The vertices (grades) are the numbers below the count; arcs and rule sets stand in the book's order
+pub record Book : Type 0 where
+  pub count : ℕ
+  pub arcs : List Arc
+  pub sets : List RuleSet
+
+-- nothing read yet
+abbrev pub blank : Book
+blank = record { count = 0; arcs = []; sets = [] }
+
+-- the forbidden paths of all rule sets, in the book's order, repeated ones too
+unfoldable pub allPaths : List RuleSet → List (List ℕ)
+allPaths [] = []
+allPaths (s ∷ ss) = s .paths ++ allPaths ss
+
+-- the four counts that reading gives
+abbrev pub counts : Book → Counts
+counts b =
+    record { vertices = b .count; arcs = length (b .arcs); sets = length (b .sets); paths = length (allPaths (b .sets)) }
+
+-- whether an arc from tail to head is among the arcs
+unfoldable pub given : List Arc → ℕ → ℕ → Bool
+given [] t h = false
+given (a ∷ rest) t h = eqb (a .tail) t && eqb (a .head) h || given rest t h
+
+-- whether v is among the vertices of a list
+unfoldable pub names : List ℕ → ℕ → Bool
+names [] v = false
+names (u ∷ us) v = eqb u v || names us v
+
+-- each vertex of a path is below the count and is not named again
+unfoldable pub simple : ℕ → List ℕ → Bool
+simple count [] = true
+simple count (v ∷ vs) = ltb v count && not (names vs v) && simple count vs
+
+-- two different vertices below the count, and a weight of at most 1,000,000
+abbrev pub properArc : ℕ → Arc → Bool
+properArc count a = ltb (a .tail) count && ltb (a .head) count && not (eqb (a .tail) (a .head)) && leb (a .weight) 1000000
+
+-- P of each element
+abbrev pub All : {A : Type 0} → (A → Type 0) → List A → Type 0
+All P [] = Unit
+All P (x ∷ xs) = P x × All P xs
+
+-- an arc of a book with `count` vertices
+pub record IsArc (count : ℕ) (a : Arc) : Type 0 where
+  pub tail-below : a .tail < count
+  pub head-below : a .head < count
+  pub different : a .tail ≢ a .head
+  pub light : a .weight ≤ 1000000
+
+-- no pair twice
+abbrev pub PairsOnce : List Arc → Type 0
+PairsOnce [] = Unit
+PairsOnce (a ∷ rest) = (given rest (a .tail) (a .head) ≡ false) × PairsOnce rest
+
+-- no vertex twice
+abbrev pub VerticesOnce : List ℕ → Type 0
+VerticesOnce [] = Unit
+VerticesOnce (v ∷ vs) = (names vs v ≡ false) × VerticesOnce vs
+
+-- a forbidden path of a book with `count` vertices
+pub record IsPath (count : ℕ) (p : List ℕ) : Type 0 where
+  pub two : 2 ≤ length p
+  pub eight : length p ≤ 8
+  pub below : All (λ v. v < count) p
+  pub once : VerticesOnce p
+
+-- what holds of every book that is read, and of what has been read of one
+pub record WellFormed (b : Book) : Type 0 where
+  pub few-vertices : b .count ≤ 64
+  pub counted : 1 ≤ length (b .sets) → 1 ≤ b .count
+  pub arcs-proper : All (IsArc (b .count)) (b .arcs)
+  pub pairs-once : PairsOnce (b .arcs)
+  pub few-sets : length (b .sets) ≤ 16
+  pub few-paths : length (allPaths (b .sets)) ≤ 256
+  pub paths-proper : All (IsPath (b .count)) (allPaths (b .sets))

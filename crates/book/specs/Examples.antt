@@ -1,0 +1,61 @@
+-- Sums of 01 on reading, computed from the definition.
+use Prim.Native.Nat.{ℕ}
+use mathlib.Core.Path.{_≡_, refl}
+use mathlib.Core.List.{List, [], _∷_, _++_}
+use Rattle.book.specs.declared.Refusal.the-variants.{Truncated, Value}
+use Rattle.book.specs.Book.{Book, allPaths, given, names, simple}
+use Rattle.book.specs.Reading.{accepted, refused, reading, fields, addPath}
+
+-- Book A of 01
+abbrev pub bytesA : List ℕ
+bytesA =
+    0x01 ∷ 0x00 ∷ 0x01 ∷ 0x04
+    ∷ 0x02 ∷ 0x00 ∷ 0x06 ∷ 0x00 ∷ 0x01 ∷ 0x00 ∷ 0x00 ∷ 0x00 ∷ 0x64
+    ∷ 0x02 ∷ 0x00 ∷ 0x06 ∷ 0x01 ∷ 0x02 ∷ 0x00 ∷ 0x00 ∷ 0x00 ∷ 0x64
+    ∷ 0x02 ∷ 0x00 ∷ 0x06 ∷ 0x02 ∷ 0x03 ∷ 0x00 ∷ 0x00 ∷ 0x00 ∷ 0x64
+    ∷ 0x02 ∷ 0x00 ∷ 0x06 ∷ 0x00 ∷ 0x02 ∷ 0x00 ∷ 0x00 ∷ 0x00 ∷ 0xfa
+    ∷ 0x02 ∷ 0x00 ∷ 0x06 ∷ 0x02 ∷ 0x01 ∷ 0x00 ∷ 0x00 ∷ 0x00 ∷ 0x32
+    ∷ 0x02 ∷ 0x00 ∷ 0x06 ∷ 0x01 ∷ 0x03 ∷ 0x00 ∷ 0x00 ∷ 0x01 ∷ 0x90
+    ∷ 0x03 ∷ 0x00 ∷ 0x02 ∷ 0x00 ∷ 0x01
+    ∷ 0x04 ∷ 0x00 ∷ 0x04 ∷ 0x00 ∷ 0x01 ∷ 0x02 ∷ 0x03
+    ∷ 0x03 ∷ 0x00 ∷ 0x02 ∷ 0x00 ∷ 0x02
+    ∷ 0x04 ∷ 0x00 ∷ 0x03 ∷ 0x00 ∷ 0x02 ∷ 0x03
+    ∷ []
+
+abbrev pub bookA : Book
+bookA =
+    record {
+      count = 4;
+      arcs =
+        record { tail = 0; head = 1; weight = 100 }
+        ∷ record { tail = 1; head = 2; weight = 100 }
+        ∷ record { tail = 2; head = 3; weight = 100 }
+        ∷ record { tail = 0; head = 2; weight = 250 }
+        ∷ record { tail = 2; head = 1; weight = 50 }
+        ∷ record { tail = 1; head = 3; weight = 400 }
+        ∷ [];
+      sets =
+        record { flags = 1; paths = (0 ∷ 1 ∷ 2 ∷ 3 ∷ []) ∷ [] }
+        ∷ record { flags = 2; paths = (0 ∷ 2 ∷ 3 ∷ []) ∷ [] }
+        ∷ []
+    }
+
+pub book-A : reading bytesA ≡ accepted bookA
+unfolding reading fields given names simple addPath allPaths
+book-A = refl
+
+pub count-64 : reading (0x01 ∷ 0x00 ∷ 0x01 ∷ 0x40 ∷ []) ≡ accepted (record { count = 64; arcs = []; sets = [] })
+unfolding reading fields
+count-64 = refl
+
+pub count-65 : reading (0x01 ∷ 0x00 ∷ 0x01 ∷ 0x41 ∷ []) ≡ refused (Value 0)
+unfolding reading fields
+count-65 = refl
+
+pub no-body : reading (0x01 ∷ 0x00 ∷ 0x01 ∷ []) ≡ refused (Truncated 0)
+unfolding reading fields
+no-body = refl
+
+pub empty-book : reading [] ≡ refused (Truncated 0)
+unfolding reading
+empty-book = refl

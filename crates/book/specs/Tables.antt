@@ -1,0 +1,62 @@
+-- A book's meaning as tables, for the layers above.
+use Prim.Native.Nat.{ℕ, zero, suc, _+_, _-_, _*_}
+use mathlib.Core.Path.{_≡_}
+use mathlib.Core.List.{List, [], _∷_, _++_, map}
+use lib.ListN.{length, set, replicate}
+use Rattle.book.specs.Book.{Arc, RuleSet, Book, allPaths}
+
+-- the mark of a pair that is no arc
+abbrev pub noArc : ℕ
+noArc = 0xffff_ffff
+
+-- a list with zeros up to n elements
+abbrev pub padded : ℕ → List ℕ → List ℕ
+padded n l = l ++ replicate (n - length l) 0
+
+-- the weight of the arc from u to v stands at u * 64 + v
+unfoldable pub entered : List ℕ → List Arc → List ℕ
+entered t [] = t
+entered t (a ∷ rest) = entered (set t (a .tail * 64 + a .head) (a .weight)) rest
+
+abbrev pub weightTable : List Arc → List ℕ
+weightTable arcs = entered (replicate 4096 noArc) arcs
+
+-- the flags of each rule set
+abbrev pub flagsOf : List RuleSet → List ℕ
+flagsOf ss = map (λ s. s .flags) ss
+
+-- for each forbidden path of the book, the index of its rule set; k is the first set's
+unfoldable pub ownersFrom : ℕ → List RuleSet → List ℕ
+ownersFrom k [] = []
+ownersFrom k (s ∷ ss) = replicate (length (s .paths)) k ++ ownersFrom (suc k) ss
+
+-- a forbidden path as an entry of nine bytes: its length, its vertices, and zeros
+abbrev pub entry : List ℕ → List ℕ
+entry p = length p ∷ padded 8 p
+
+unfoldable pub entries : List (List ℕ) → List ℕ
+entries [] = []
+entries (p ∷ ps) = entry p ++ entries ps
+
+abbrev pub flagTable : List RuleSet → List ℕ
+flagTable ss = padded 16 (flagsOf ss)
+
+abbrev pub ownerTable : List RuleSet → List ℕ
+ownerTable ss = padded 256 (ownersFrom 0 ss)
+
+abbrev pub pathTable : List RuleSet → List ℕ
+pathTable ss = padded 2304 (entries (allPaths ss))
+
+-- the tables that stand for a book
+pub record Tables (b : Book) (weights flags owners paths : List ℕ) : Type 0 where
+  pub weights-are : weights ≡ weightTable (b .arcs)
+  pub flags-are : flags ≡ flagTable (b .sets)
+  pub owners-are : owners ≡ ownerTable (b .sets)
+  pub paths-are : paths ≡ pathTable (b .sets)
+
+-- the tables that stand for nothing yet
+pub record Blank (weights flags owners paths : List ℕ) : Type 0 where
+  pub no-arcs : weights ≡ replicate 4096 noArc
+  pub no-flags : flags ≡ replicate 16 0
+  pub no-owners : owners ≡ replicate 256 0
+  pub no-paths : paths ≡ replicate 2304 0

@@ -1,0 +1,288 @@
+// One field of a book: the tests in their order, and what it adds to the tables.
+ghost use mathlib.Core.Path.{_≡_};
+ghost use Prim.Native.Nat.{_+_, _≤_, _<_};
+ghost use lib.ListN.{length};
+ghost use lib.Seq.{slice, paste};
+ghost use Rattle.book.specs.Book.{Book, WellFormed, names, properArc};
+ghost use Rattle.book.specs.Book.{counts as Book·counts, simple as Book·simple};
+ghost use Rattle.book.specs.Reading.{answer, u16At, u32At, endAt, lengthAt, kindOf, framed, taken, kept};
+ghost use Rattle.book.specs.Reading.{field as Reading·field, fits as Reading·fits, follows as Reading·follows};
+ghost use Rattle.book.specs.Tables.{Tables, weightTable, flagTable, ownerTable, pathTable};
+ghost use Rattle.book.specs.declared.Kind.the-variants.{VertexCount, Arc, RuleSet, Path};
+
+use crate::Answer;
+use crate::Counts;
+use crate::Kind;
+use crate::NO_ARC;
+use crate::Refusal;
+
+fn kind_of(tag: u8) -> Kind
+    ensures { λ r. ⌜ r ≡ kindOf tag ⌝ }
+{
+    match tag {
+        1 => Kind::VertexCount,
+        2 => Kind::Arc,
+        3 => Kind::RuleSet,
+        4 => Kind::Path,
+        _ => Kind::Unknown,
+    }
+}
+
+fn follows(vertices: usize, sets: usize, kind: Kind) -> bool
+    ensures { λ r. ⌜ r ≡ Reading·follows vertices sets kind ⌝ }
+{
+    match kind {
+        Kind::VertexCount => vertices == 0,
+        Kind::Arc => vertices != 0 && sets == 0,
+        Kind::RuleSet => vertices != 0,
+        Kind::Path => sets != 0,
+        Kind::Unknown => false,
+    }
+}
+
+fn fits(kind: Kind, n: usize) -> bool
+    ensures { λ r. ⌜ r ≡ Reading·fits kind n ⌝ }
+{
+    match kind {
+        Kind::VertexCount => n == 1,
+        Kind::Arc => n == 6,
+        Kind::RuleSet => n == 2,
+        Kind::Path => 2 <= n && n <= 8,
+        Kind::Unknown => false,
+    }
+}
+
+fn wide(x: u8) -> usize
+    ensures { λ r. ⌜ r ≡ x ⌝ }
+    ensures { λ r. ⌜ r < 256 ⌝ }
+{
+    x as usize
+}
+
+// Numbers, high byte first.
+fn u16_at(bytes: &[u8], i: usize) -> usize
+    requires { ⌜ i + 2 ≤ length (now bytes) ⌝ }
+    ensures { λ r. ⌜ r ≡ u16At (now (bytes .entry)) i ⌝ }
+    ensures { λ r. ⌜ r < 65536 ⌝ }
+{
+    wide(bytes[i]) * 256 + wide(bytes[i + 1])
+}
+
+fn u32_at(bytes: &[u8], i: usize) -> usize
+    requires { ⌜ i + 4 ≤ length (now bytes) ⌝ }
+    ensures { λ r. ⌜ r ≡ u32At (now (bytes .entry)) i ⌝ }
+{
+    u16_at(bytes, i) * 65536 + u16_at(bytes, i + 2)
+}
+
+// The byte after the field.
+pub fn field_end(bytes: &[u8], at: usize) -> usize
+    requires { ⌜ at + 3 ≤ length (now bytes) ⌝ }
+    ensures { λ r. ⌜ r ≡ endAt (now (bytes .entry)) at ⌝ }
+{
+    at + 3 + u16_at(bytes, at + 1)
+}
+
+// 1 for the head, 2, 3, 1 for the body.
+fn frame(bytes: &[u8], at: usize, counts: Counts) -> Answer
+    requires { ⌜ at < length (now bytes) ⌝ }
+    ensures { λ r. ⌜ r ≡ framed (now (bytes .entry)) at counts ⌝ }
+{
+    if bytes.len() - at < 3 {
+        return Answer::Refused(Refusal::Truncated(at));
+    }
+    let kind = kind_of(bytes[at]);
+    if !follows(counts.vertices, counts.sets, kind) {
+        return Answer::Refused(Refusal::Tag(at));
+    }
+    let n = u16_at(bytes, at + 1);
+    if !fits(kind, n) {
+        return Answer::Refused(Refusal::Length(at));
+    }
+    if bytes.len() - at - 3 < n {
+        return Answer::Refused(Refusal::Truncated(at));
+    }
+    Answer::Read(counts)
+}
+
+fn vertex_count(bytes: &[u8], at: usize, counts: Counts) -> Answer
+    requires { ⌜ at + 4 ≤ length (now bytes) ⌝ }
+    ensures { λ r. ⌜ ((b : Book) → counts ≡ Book·counts b → r ≡ answer (taken VertexCount (now (bytes .entry)) b at)) ⌝ }
+{
+    let n = wide(bytes[at + 3]);
+    if n < 1 {
+        return Answer::Refused(Refusal::Value(at));
+    }
+    if 64 < n {
+        return Answer::Refused(Refusal::Value(at));
+    }
+    Answer::Read(Counts {
+        vertices: n,
+        arcs: counts.arcs,
+        sets: counts.sets,
+        paths: counts.paths,
+    })
+}
+
+fn proper_arc(vertices: usize, tail: usize, head: usize, weight: usize) -> bool
+    ensures { λ r. ⌜ r ≡ properArc vertices (record { tail = tail; head = head; weight = weight }) ⌝ }
+{
+    if vertices <= tail {
+        return false;
+    }
+    if vertices <= head {
+        return false;
+    }
+    if tail == head {
+        return false;
+    }
+    weight <= 1_000_000
+}
+
+fn arc(bytes: &[u8], at: usize, counts: Counts, weights: &mut [u32; 4096]) -> Answer
+    requires { ⌜ at + 9 ≤ length (now bytes) ⌝ }
+    requires { ⌜ counts .vertices ≤ 64 ⌝ }
+    requires { ⌜ counts .arcs ≤ at ⌝ }
+    ensures { λ r. ⌜ ((b : Book) → counts ≡ Book·counts b → WellFormed b → now (weights .entry) ≡ weightTable (b .arcs) → (r ≡ answer (taken Arc (now (bytes .entry)) b at)) × (now (weights .exit) ≡ weightTable (kept b (taken Arc (now (bytes .entry)) b at) .arcs))) ⌝ }
+{
+    let tail = wide(bytes[at + 3]);
+    let head = wide(bytes[at + 4]);
+    let weight = u32_at(bytes, at + 5);
+    if !proper_arc(counts.vertices, tail, head, weight) {
+        return Answer::Refused(Refusal::Value(at));
+    }
+    let pair = tail * 64 + head;
+    if weights[pair] != NO_ARC {
+        return Answer::Refused(Refusal::Repeated(at));
+    }
+    weights[pair] = weight as u32;
+    Answer::Read(Counts {
+        vertices: counts.vertices,
+        arcs: counts.arcs + 1,
+        sets: counts.sets,
+        paths: counts.paths,
+    })
+}
+
+fn rule_set(bytes: &[u8], at: usize, counts: Counts, flags: &mut [u16; 16]) -> Answer
+    requires { ⌜ at + 5 ≤ length (now bytes) ⌝ }
+    ensures { λ r. ⌜ ((b : Book) → counts ≡ Book·counts b → now (flags .entry) ≡ flagTable (b .sets) → (r ≡ answer (taken RuleSet (now (bytes .entry)) b at)) × (now (flags .exit) ≡ flagTable (kept b (taken RuleSet (now (bytes .entry)) b at) .sets))) ⌝ }
+{
+    let k = counts.sets;
+    if 16 <= k {
+        return Answer::Refused(Refusal::TooMany(at));
+    }
+    flags[k] = u16_at(bytes, at + 3) as u16;
+    Answer::Read(Counts {
+        vertices: counts.vertices,
+        arcs: counts.arcs,
+        sets: k + 1,
+        paths: counts.paths,
+    })
+}
+
+// Whether v is among the bytes from `from` up to `to`.
+fn named(bytes: &[u8], from: usize, to: usize, v: u8) -> bool
+    requires { ⌜ to ≤ length (now bytes) ⌝ }
+    ensures { λ r. ⌜ r ≡ names (slice from to (now (bytes .entry))) v ⌝ }
+{
+    let mut i = from;
+    while i < to {
+        if bytes[i] == v {
+            return true;
+        }
+        i += 1;
+    }
+    false
+}
+
+fn simple(bytes: &[u8], from: usize, to: usize, vertices: usize) -> bool
+    requires { ⌜ to ≤ length (now bytes) ⌝ }
+    ensures { λ r. ⌜ r ≡ Book·simple vertices (slice from to (now (bytes .entry))) ⌝ }
+{
+    let mut i = from;
+    while i < to {
+        let v = bytes[i];
+        if vertices <= wide(v) {
+            return false;
+        }
+        i += 1;
+        if named(bytes, i, to, v) {
+            return false;
+        }
+    }
+    true
+}
+
+fn copy(src: &[u8], from: usize, dst: &mut [u8; 2304], to: usize, n: usize)
+    requires { ⌜ from + n ≤ length (now src) ⌝ }
+    requires { ⌜ to + n ≤ 2304 ⌝ }
+    ensures { λ _. ⌜ (to + n ≤ length (now (dst .entry)) → now (dst .exit) ≡ paste (now (dst .entry)) to (slice from (from + n) (now (src .entry))) n) ⌝ }
+{
+    let mut i = 0;
+    while i < n {
+        dst[to + i] = src[from + i];
+        i += 1;
+    }
+}
+
+fn path(
+    bytes: &[u8],
+    at: usize,
+    counts: Counts,
+    owners: &mut [u8; 256],
+    entries: &mut [u8; 2304],
+) -> Answer
+    requires { ⌜ endAt (now bytes) at ≤ length (now bytes) ⌝ }
+    requires { ⌜ lengthAt (now bytes) at ≤ 8 ⌝ }
+    requires { ⌜ 1 ≤ counts .sets ⌝ }
+    ensures { λ r. ⌜ ((b : Book) → counts ≡ Book·counts b → WellFormed b → now (owners .entry) ≡ ownerTable (b .sets) → now (entries .entry) ≡ pathTable (b .sets) → (r ≡ answer (taken Path (now (bytes .entry)) b at)) × (now (owners .exit) ≡ ownerTable (kept b (taken Path (now (bytes .entry)) b at) .sets)) × (now (entries .exit) ≡ pathTable (kept b (taken Path (now (bytes .entry)) b at) .sets))) ⌝ }
+{
+    let end = field_end(bytes, at);
+    let from = at + 3;
+    if !simple(bytes, from, end, counts.vertices) {
+        return Answer::Refused(Refusal::Value(at));
+    }
+    let k = counts.paths;
+    if 256 <= k {
+        return Answer::Refused(Refusal::TooMany(at));
+    }
+    let n = end - from;
+    owners[k] = ((counts.sets - 1) % 256) as u8;
+    entries[k * 9] = (n % 256) as u8;
+    copy(bytes, from, entries, k * 9 + 1, n);
+    Answer::Read(Counts {
+        vertices: counts.vertices,
+        arcs: counts.arcs,
+        sets: counts.sets,
+        paths: k + 1,
+    })
+}
+
+pub fn field(
+    bytes: &[u8],
+    at: usize,
+    counts: Counts,
+    weights: &mut [u32; 4096],
+    flags: &mut [u16; 16],
+    owners: &mut [u8; 256],
+    entries: &mut [u8; 2304],
+) -> Answer
+    requires { ⌜ at < length (now bytes) ⌝ }
+    requires { ⌜ counts .vertices ≤ 64 ⌝ }
+    requires { ⌜ counts .arcs ≤ at ⌝ }
+    ensures { λ r. ⌜ ((b : Book) → counts ≡ Book·counts b → WellFormed b → Tables b (now (weights .entry)) (now (flags .entry)) (now (owners .entry)) (now (entries .entry)) → (r ≡ answer (Reading·field (now (bytes .entry)) b at)) × Tables (kept b (Reading·field (now (bytes .entry)) b at)) (now (weights .exit)) (now (flags .exit)) (now (owners .exit)) (now (entries .exit))) ⌝ }
+{
+    let framed = frame(bytes, at, counts);
+    let Answer::Read(_) = framed else {
+        return framed;
+    };
+    let kind = kind_of(bytes[at]);
+    match kind {
+        Kind::VertexCount => vertex_count(bytes, at, counts),
+        Kind::Arc => arc(bytes, at, counts, weights),
+        Kind::RuleSet => rule_set(bytes, at, counts, flags),
+        Kind::Path => path(bytes, at, counts, owners, entries),
+        Kind::Unknown => framed,
+    }
+}

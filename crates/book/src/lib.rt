@@ -1,0 +1,96 @@
+// The book: its reader, and what a book that is read means to the layers above.
+ghost use mathlib.Core.Path.{_≡_};
+ghost use Rattle.book.specs.Book.{Book};
+ghost use Rattle.book.specs.Reading.{reading, answer, accepted};
+ghost use Rattle.book.specs.Tables.{Blank, Tables};
+
+mod field;
+
+use field::field;
+use field::field_end;
+
+// The refusals of 01, 1 to 13 in its order. A book's refusal holds the byte at which the field starts.
+pub enum Refusal {
+    Truncated(usize),
+    Tag(usize),
+    Length(usize),
+    Value(usize),
+    Repeated(usize),
+    TooMany(usize),
+    Endpoint,
+    Area,
+    Invalid,
+    NotAWalk,
+    Ended,
+    NotStanding,
+    Full,
+}
+
+// How many vertices, arcs, rule sets and forbidden paths a book has.
+pub struct Counts {
+    pub vertices: usize,
+    pub arcs: usize,
+    pub sets: usize,
+    pub paths: usize,
+}
+
+pub enum Answer {
+    Read(Counts),
+    Refused(Refusal),
+}
+
+// What a field's tag says that it is.
+pub enum Kind {
+    VertexCount,
+    Arc,
+    RuleSet,
+    Path,
+    Unknown,
+}
+
+// A pair of vertices that is no arc, in a table of weights.
+pub const NO_ARC: u32 = 0xffff_ffff;
+
+// Reads a book: its counts, or its refusal.
+pub fn read(bytes: &[u8]) -> Answer
+    ensures { λ r. ⌜ r ≡ answer (reading (now (bytes .entry))) ⌝ }
+{
+    let mut weights = [NO_ARC; 4096];
+    let mut flags = [0u16; 16];
+    let mut owners = [0u8; 256];
+    let mut entries = [0u8; 2304];
+    load(bytes, &mut weights, &mut flags, &mut owners, &mut entries)
+}
+
+// Reads a book into blank tables.
+pub fn load(
+    bytes: &[u8],
+    weights: &mut [u32; 4096],
+    flags: &mut [u16; 16],
+    owners: &mut [u8; 256],
+    entries: &mut [u8; 2304],
+) -> Answer
+    requires { ⌜ Blank (now weights) (now flags) (now owners) (now entries) ⌝ }
+    ensures { λ r. ⌜ r ≡ answer (reading (now (bytes .entry))) ⌝ }
+    ensures { λ r. ⌜ ((b : Book) → reading (now (bytes .entry)) ≡ accepted b → Tables b (now (weights .exit)) (now (flags .exit)) (now (owners .exit)) (now (entries .exit))) ⌝ }
+{
+    if bytes.len() == 0 {
+        return Answer::Refused(Refusal::Truncated(0));
+    }
+    let mut at = 0;
+    let mut counts = Counts {
+        vertices: 0,
+        arcs: 0,
+        sets: 0,
+        paths: 0,
+    };
+    while at < bytes.len() {
+        let step = field(bytes, at, counts, weights, flags, owners, entries);
+        let Answer::Read(next) = step else {
+            return step;
+        };
+        counts = next;
+        at = field_end(bytes, at);
+    }
+    Answer::Read(counts)
+}

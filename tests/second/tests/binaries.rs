@@ -1,0 +1,124 @@
+//! The built programs: what they read and print, and their exit status.
+
+use second::frames;
+use second::inputs;
+use second::kinds::{Kind, KINDS};
+use second::samples;
+use second::vectors;
+use std::fs;
+use std::io::Write;
+use std::process::{Command, Output, Stdio};
+
+const SECOND: &str = env!("CARGO_BIN_EXE_second");
+const COMPARE: &str = env!("CARGO_BIN_EXE_compare");
+const VECTORS: &str = env!("CARGO_BIN_EXE_vectors");
+
+fn run(program: &str, words: &[&str], input: &[u8]) -> Output {
+    let mut child = Command::new(program)
+        .args(words)
+        .stdin(Stdio::piped())
+        .stdout(Stdio::piped())
+        .stderr(Stdio::piped())
+        .spawn()
+        .unwrap();
+    // A program that refuses its words reads nothing.
+    let _ = child.stdin.take().unwrap().write_all(input);
+    child.wait_with_output().unwrap()
+}
+
+fn text(output: &Output) -> String {
+    String::from_utf8(output.stdout.clone()).unwrap()
+}
+
+#[test]
+fn second_answers_one_case_or_a_stream() {
+    let listing = inputs::plan_input(3, 0, 3, &samples::book_a().bytes());
+    let answer = "LITRES 450 CHANGES 5\n0 1 2 1 2 3\n";
+    assert_eq!(text(&run(SECOND, &["plan"], &listing)), answer);
+    let stream = frames::join(&[listing.clone(), vec![], listing]);
+    assert_eq!(
+        text(&run(SECOND, &["plans"], &stream)),
+        format!("{answer}REFUSED 1 AT 0\n{answer}")
+    );
+    for kind in KINDS {
+        let case = inputs::case(kind, 1, 1);
+        assert_eq!(text(&run(SECOND, &[kind.name()], &case)), kind.run(&case));
+    }
+    assert_eq!(
+        run(SECOND, &["input", "chain", "1"], &[]).stdout,
+        samples::speed_input("chain", 1).unwrap()
+    );
+}
+
+#[test]
+fn wrong_words_fail() {
+    for (program, words) in [
+        (SECOND, &[][..]),
+        (SECOND, &["other"]),
+        (SECOND, &["input", "other", "1"]),
+        (COMPARE, &["plan", "5", "1"]),
+        (COMPARE, &["plan", "5", "1", "--"]),
+        (COMPARE, &["other", "5", "1", "--", SECOND, "plan"]),
+        (VECTORS, &["plans", "1", "/tmp"]),
+    ] {
+        let output = run(program, words, &[]);
+        assert!(!output.status.success() && output.stdout.is_empty(), "{words:?}");
+    }
+}
+
+#[test]
+fn vectors_writes_its_three_files() {
+    let folder = std::env::temp_dir().join(format!("second-vectors-{}", std::process::id()));
+    let name = folder.to_str().unwrap();
+    assert!(run(VECTORS, &["check_lineup", "4", name], &[]).status.success());
+    let stream = frames::join(&vectors::cases(Kind::CheckLineup, 4));
+    assert_eq!(fs::read(folder.join("stdin")).unwrap(), stream);
+    let printed = fs::read_to_string(folder.join("stdout")).unwrap();
+    assert_eq!(printed, Kind::CheckLineup.run_stream(&stream));
+    let note = fs::read_to_string(folder.join("VECTORS.txt")).unwrap();
+    assert!(note.ends_with(&format!("--bin vectors -- check_lineup 4 {name}\n")), "{note}");
+    fs::remove_dir_all(folder).unwrap();
+}
+
+#[test]
+fn compare_finds_no_difference_from_itself() {
+    for kind in KINDS {
+        let stream = kind.stream_name();
+        for (name, count) in [(kind.name(), "12"), (stream.as_str(), "600")] {
+            let output = run(COMPARE, &[name, count, "2", "--", SECOND, name], &[]);
+            assert!(output.status.success());
+            assert_eq!(text(&output), format!("{name}: {count} inputs of seed 2, 0 different\n"));
+        }
+    }
+}
+
+#[test]
+fn compare_reports_each_difference() {
+    let output = run(COMPARE, &["plan", "3", "2", "--", SECOND, "replay"], &[]);
+    assert!(!output.status.success());
+    let printed = text(&output);
+    let lines: Vec<&str> = printed.lines().collect();
+    assert_eq!(lines.len(), 4);
+    for (index, line) in lines[..3].iter().enumerate() {
+        assert!(line.starts_with(&format!("DIFFERENT plan seed 2 index {index}: ")), "{line}");
+    }
+    assert_eq!(lines[3], "plan: 3 inputs of seed 2, 3 different");
+    // A stream that differs is gone through case by case.
+    let output = run(COMPARE, &["plans", "3", "2", "--", SECOND, "replays"], &[]);
+    assert!(!output.status.success());
+    assert!(text(&output).contains("DIFFERENT plans seed 2 index 1: "));
+    // A program that fails, or isn't there, differs.
+    for command in [&[SECOND][..], &["/no/such/program"]] {
+        let words = [&["plan", "2", "2", "--"], command].concat();
+        assert!(
+            text(&run(COMPARE, &words, &[])).ends_with("plan: 2 inputs of seed 2, 2 different\n")
+        );
+    }
+}
+
+#[test]
+fn compare_shows_the_input_of_a_case() {
+    let case = inputs::case(Kind::Plan, 6, 9);
+    assert_eq!(run(COMPARE, &["--show", "plan", "6", "9"], &[]).stdout, case);
+    assert_eq!(run(COMPARE, &["--show", "plans", "6", "9"], &[]).stdout, frames::frame(&case));
+}

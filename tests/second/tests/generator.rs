@@ -1,0 +1,132 @@
+//! The generator and the vectors: deterministic, of the promised sizes, and
+//! with every answer among them.
+
+use second::binding;
+use second::book;
+use second::exhaustive;
+use second::frames;
+use second::generate;
+use second::inputs;
+use second::kinds::{Kind, KINDS};
+use second::random::Random;
+use second::samples;
+use second::text;
+use second::vectors;
+use std::collections::BTreeSet;
+
+#[test]
+fn random_numbers_are_those_of_splitmix64() {
+    // The first numbers of the published generator from state 0.
+    let mut random = Random::from_state(0);
+    assert_eq!(random.word(), 0xe220_a839_7b1d_cdaf);
+    assert_eq!(random.word(), 0x6e78_9e6a_a1b9_65f4);
+}
+
+#[test]
+fn cases_are_deterministic_and_differ() {
+    for kind in KINDS {
+        let cases: BTreeSet<Vec<u8>> = (0..200).map(|index| inputs::case(kind, 7, index)).collect();
+        assert!(cases.len() > 150, "{}: {}", kind.name(), cases.len());
+        assert_eq!(inputs::case(kind, 7, 3), inputs::case(kind, 7, 3));
+        assert_ne!(inputs::case(kind, 7, 3), inputs::case(kind, 8, 3));
+        assert_eq!(vectors::cases(kind, 5), vectors::cases(kind, 5));
+    }
+}
+
+#[test]
+fn typical_books_have_their_size() {
+    let book = generate::read(&generate::typical(&mut Random::new(&[9])));
+    assert_eq!((book.grades(), book.changeovers.count(), book.runs()), (30, 300, 20));
+}
+
+#[test]
+fn speed_inputs_are_there() {
+    for name in samples::SPEED_INPUTS {
+        let input = samples::speed_input(name, 1).unwrap();
+        let printed = Kind::Plan.run(&input);
+        assert!(printed.starts_with("LITRES "), "{name}: {printed}");
+    }
+    assert_eq!(samples::speed_input("other", 1), None);
+    assert_eq!(samples::speed_input("largest", 1).map(|input| input.len()), Some(39_192));
+}
+
+#[test]
+fn frames_are_joined_and_split() {
+    let cases = vec![vec![], vec![7], vec![1; 300]];
+    let stream = frames::join(&cases);
+    assert_eq!(stream[..9], [0, 0, 0, 0, 0, 0, 0, 1, 7]);
+    assert_eq!(stream[9..14], [0, 0, 1, 44, 1]);
+    assert_eq!(frames::split(&stream), cases);
+    assert_eq!(frames::split(&stream[..stream.len() - 1]), cases[..2]);
+    assert_eq!(frames::split(&[0, 0, 0]), Vec::<&[u8]>::new());
+}
+
+/// Each vector file: enough cases, small enough, and each answer that its
+/// program can give.
+#[test]
+fn vectors_are_complete() {
+    let check = |kind: Kind, cases: usize, most: usize, answers: &[&str]| {
+        let list = vectors::cases(kind, 1);
+        assert!(list.len() >= cases, "{} has {} cases", kind.name(), list.len());
+        let stream = frames::join(&list);
+        let printed = kind.run_stream(&stream);
+        assert!(stream.len() < most && printed.len() < most, "{}", kind.name());
+        for answer in answers {
+            let count = printed.lines().filter(|line| line.starts_with(answer)).count();
+            assert!(count > 0, "{} lacks {answer}", kind.name());
+        }
+    };
+    let book = ["REFUSED 1 ", "REFUSED 2 ", "REFUSED 3 ", "REFUSED 4 ", "REFUSED 5 ", "REFUSED 6 "];
+    let with = |more: &[&'static str]| [&book[..], more].concat();
+    check(Kind::ReadBook, 500, 400_000, &with(&["GRADES 64 CHANGEOVERS 4032 SHEETS 16 RUNS 256"]));
+    check(Kind::CheckLineup, 320, 1_000_000, &with(&["CLEAR", "RUN AT ", "REFUSED 10"]));
+    check(Kind::Plan, 1_000, 1_000_000, &with(&["LITRES ", "NONE", "REFUSED 7"]));
+    let replay =
+        ["STAGE 0", "STAGE 1", "STAGE 2", "REFUSED 7", "REFUSED 11", "REFUSED 12", "REFUSED 13"];
+    check(Kind::Replay, 320, 1_000_000, &with(&replay));
+}
+
+/// 01's settled sums are among the vectors with the paper's answers.
+#[test]
+fn vectors_hold_the_settled_sums() {
+    let plan = vectors::cases(Kind::Plan, 1);
+    for (marks, answer) in [
+        (0, "LITRES 300 CHANGES 3\n0 1 2 3\n"),
+        (1, "LITRES 350 CHANGES 2\n0 2 3\n"),
+        (2, "LITRES 300 CHANGES 3\n0 1 2 3\n"),
+        (3, "LITRES 450 CHANGES 5\n0 1 2 1 2 3\n"),
+    ] {
+        let input = inputs::plan_input(marks, 0, 3, &samples::book_a().bytes());
+        assert!(plan.contains(&input));
+        assert_eq!(Kind::Plan.run(&input), answer);
+    }
+    let read = vectors::cases(Kind::ReadBook, 1);
+    for (bytes, answer) in [
+        (&[1, 0, 1, 0x40][..], "GRADES 64 CHANGEOVERS 0 SHEETS 0 RUNS 0\n"),
+        (&[1, 0, 1, 0x41], "REFUSED 4 AT 0\n"),
+        (&[1, 0, 1], "REFUSED 1 AT 0\n"),
+        (&[], "REFUSED 1 AT 0\n"),
+    ] {
+        assert!(read.contains(&bytes.to_vec()));
+        assert_eq!(Kind::ReadBook.run(bytes), answer);
+    }
+}
+
+/// The stored plans are those of the planner that follows line-ups best first.
+#[test]
+fn vectors_hold_the_plans_of_another_planner() {
+    let mut plans = 0;
+    for input in vectors::cases(Kind::Plan, 1) {
+        let Some((head, bytes)) = input.split_first_chunk::<4>() else { continue };
+        let Ok(book) = book::read(bytes) else { continue };
+        let [high, low, start, end] = *head;
+        if usize::from(start.max(end)) >= book.grades() {
+            continue;
+        }
+        let runs = binding::known_runs(&book, u16::from_be_bytes([high, low]));
+        let plan = exhaustive::best_first(&book.changeovers, &runs, start, end);
+        assert_eq!(Kind::Plan.run(&input), text::plan(plan.as_ref()));
+        plans += 1;
+    }
+    assert!(plans > 800, "{plans}");
+}
