@@ -8,7 +8,8 @@ use native.Mathlib.Omega.{arith}
 use lib.ListN.{length, set, replicate, length-append, length-replicate, length-map, replicate-append-replicate}
 use Rattle.book.specs.declared.Counts.{Counts}
 use Rattle.book.specs.declared.Kind.the-variants.{VertexCount, Arc, RuleSet, Path}
-use Rattle.book.specs.Book.{Arc as Book·Arc, RuleSet as Book·RuleSet, Book, All, allPaths, counts}
+use Rattle.walks.specs.Graph.{Arc as Book·Arc}
+use Rattle.book.specs.Book.{RuleSet as Book·RuleSet, Book, All, allPaths, counts}
 use Rattle.book.specs.Reading.{countAt, arcAt, flagsAt, pathAt, extended, addPath}
 use Rattle.book.specs.Tables.{entered, weightTable, flagsOf, ownersFrom, entry, entries, padded, flagTable, ownerTable, pathTable}
 use Rattle.book.specs.BookLaws.{bare, paths-set, length-sets-path, paths-path}
@@ -89,15 +90,15 @@ module _ (c : Counts) (s : List ℕ) (b : Book) (at : ℕ) (so-far : c ≡ count
   counts-arc =
       ap (λ (d : Counts). record { vertices = d .vertices; arcs = d .arcs + 1; sets = d .sets; paths = d .paths }) so-far
       ∙ ap (λ n. record { vertices = b .count; arcs = n; sets = length (b .sets); paths = length (allPaths (b .sets)) })
-        (sym (length-append (b .arcs) (arcAt s at ∷ [])))
+      (sym (length-append (b .arcs) (arcAt s at ∷ [])))
 
   pub counts-set :
       record { vertices = c .vertices; arcs = c .arcs; sets = c .sets + 1; paths = c .paths } ≡ counts (extended RuleSet s b at)
   counts-set =
       ap (λ (d : Counts). record { vertices = d .vertices; arcs = d .arcs; sets = d .sets + 1; paths = d .paths }) so-far
       ∙ ap₂ (λ n m. record { vertices = b .count; arcs = length (b .arcs); sets = n; paths = m })
-        (sym (length-append (b .sets) (bare (flagsAt s at))))
-        (sym (ap length (paths-set (flagsAt s at) (b .sets))))
+      (sym (length-append (b .sets) (bare (flagsAt s at))))
+      (sym (ap length (paths-set (flagsAt s at) (b .sets))))
 
   pub counts-path : 1 ≤ c .sets
       → record { vertices = c .vertices; arcs = c .arcs; sets = c .sets; paths = c .paths + 1 } ≡ counts (extended Path s b at)
@@ -105,5 +106,5 @@ module _ (c : Counts) (s : List ℕ) (b : Book) (at : ℕ) (so-far : c ≡ count
       let some-set : 1 ≤ length (b .sets) = omega (arith, ap (λ (d : Counts). d .sets) so-far) in
       ap (λ (d : Counts). record { vertices = d .vertices; arcs = d .arcs; sets = d .sets; paths = d .paths + 1 }) so-far
       ∙ ap₂ (λ n m. record { vertices = b .count; arcs = length (b .arcs); sets = n; paths = m })
-        (sym (length-sets-path (pathAt s at) (b .sets)))
-        (sym (ap length (paths-path (pathAt s at) (b .sets) some-set) ∙ length-append (allPaths (b .sets)) (pathAt s at ∷ [])))
+      (sym (length-sets-path (pathAt s at) (b .sets)))
+      (sym (ap length (paths-path (pathAt s at) (b .sets) some-set) ∙ length-append (allPaths (b .sets)) (pathAt s at ∷ [])))

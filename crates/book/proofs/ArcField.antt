@@ -9,13 +9,14 @@ use Rattle.book.specs.declared.Answer.the-variants.{Read, Refused}
 use Rattle.book.specs.declared.Counts.{Counts}
 use Rattle.book.specs.declared.Kind.the-variants.{Arc}
 use Rattle.book.specs.declared.Refusal.the-variants.{Value, Repeated}
-use Rattle.book.specs.Book.{Arc as Book·Arc, Book, All, IsArc, WellFormed, counts, given, properArc}
-use Rattle.book.specs.BookLaws.{all-map, is-arc}
+use Rattle.walks.specs.Graph.{Arc as Book·Arc}
+use Rattle.book.specs.Book.{Book, IsArc, WellFormed, counts, given, properArc}
+use Rattle.book.specs.BookLaws.{is-arc}
 use Rattle.book.specs.Reading.{Reading, answer, arcAt, taken, kept, proper, fresh}
+use Rattle.book.specs.TableLaws.{marked→free, unmarked→given}
 use Rattle.book.specs.Tables.{noArc, weightTable}
 use Rattle.book.proofs.Added.{entered-arc, counts-arc}
 use Rattle.book.proofs.Taken.{taken-value, taken-repeated, taken-whole}
-use Rattle.book.proofs.Weights.{Fitting, unmarked, marked}
 
 module _ (c : Counts) (s : List ℕ) (b : Book) (at : ℕ) (so-far : c ≡ counts b) (w : WellFormed b) (t : List ℕ) (held : t ≡ weightTable (b .arcs)) (a : Book·Arc) (read : a ≡ arcAt s at) where
   value-is : (x : Bool) → properArc (c .vertices) a ≡ x → proper Arc s b at ≡ x
@@ -37,13 +38,6 @@ module _ (c : Counts) (s : List ℕ) (b : Book) (at : ℕ) (so-far : c ≡ count
     within : IsArc (b .count) a
     within = is-arc (b .count) a (ap (λ (d : Counts). properArc (d .vertices) a) (sym so-far) ∙ p)
 
-    fitting : All Fitting (b .arcs)
-    fitting =
-        all-map
-        (λ x h. record { tail-fits = omega (arith, h .tail-below, w .few-vertices); head-fits = omega (arith, h .head-below, w .few-vertices); light = h .light })
-        (b .arcs)
-        (w .arcs-proper)
-
     tail-fits : a .tail < 64
     tail-fits = omega (arith, within .tail-below, w .few-vertices)
 
@@ -53,7 +47,7 @@ module _ (c : Counts) (s : List ℕ) (b : Book) (at : ℕ) (so-far : c ≡ count
     pub arc-repeated : (getD t (a .tail * 64 + a .head) 0 ≡ noArc → ⊥)
         → (Refused (Repeated at) ≡ answer (taken Arc s b at)) × Stays (taken Arc s b at)
     arc-repeated ne =
-        let seen = marked _ _ tail-fits head-fits (b .arcs) fitting (λ e. ne (ap (λ l. getD l (a .tail * 64 + a .head) 0) held ∙ e)) in
+        let seen = unmarked→given b w _ _ tail-fits head-fits (λ e. ne (ap (λ l. getD l (a .tail * 64 + a .head) 0) held ∙ e)) in
         let is = taken-repeated Arc s b at (value-is true p) (given-is true seen) in
         (sym (ap answer is), held ∙ ap (λ r. weightTable (kept b r .arcs)) (sym is))
 
@@ -61,11 +55,10 @@ module _ (c : Counts) (s : List ℕ) (b : Book) (at : ℕ) (so-far : c ≡ count
         → (Read (record { vertices = c .vertices; arcs = c .arcs + 1; sets = c .sets; paths = c .paths }) ≡ answer (taken Arc s b at))
         × (set t (a .tail * 64 + a .head) (a .weight) ≡ weightTable (kept b (taken Arc s b at) .arcs))
     arc-added e =
-        let new = unmarked _ _ tail-fits head-fits (b .arcs) fitting (ap (λ l. getD l (a .tail * 64 + a .head) 0) (sym held) ∙ e) in
-        let is = taken-whole Arc s b at (value-is true p) (given-is false new) refl in
-        (
+        let new = marked→free b w _ _ tail-fits head-fits (ap (λ l. getD l (a .tail * 64 + a .head) 0) (sym held) ∙ e) in
+        let is = taken-whole Arc s b at (value-is true p) (given-is false new) refl in (
           ap Read (counts-arc c s b at so-far) ∙ sym (ap answer is),
           ap₂ (λ l (d : Book·Arc). set l (d .tail * 64 + d .head) (d .weight)) held read
-          ∙ sym (entered-arc _ (b .arcs) (arcAt s at))
-          ∙ ap (λ r. weightTable (kept b r .arcs)) (sym is),
+              ∙ sym (entered-arc _ (b .arcs) (arcAt s at))
+              ∙ ap (λ r. weightTable (kept b r .arcs)) (sym is),
         )

@@ -72,7 +72,7 @@ module _ (s : List ℕ) (b : Book) (at : ℕ) (w f o p : List ℕ) where
         weights-are = held .weights-are ∙ untouched VertexCount s b at (λ d. weightTable (d .arcs)) refl;
         flags-are = held .flags-are ∙ untouched VertexCount s b at (λ d. flagTable (d .sets)) refl;
         owners-are = held .owners-are ∙ untouched VertexCount s b at (λ d. ownerTable (d .sets)) refl;
-        paths-are = held .paths-are ∙ untouched VertexCount s b at (λ d. pathTable (d .sets)) refl
+        paths-are = held .paths-are ∙ untouched VertexCount s b at (λ d. pathTable (d .sets)) refl;
       }
 
   pub tables-arc : (w′ : List ℕ) → Tables b w f o p → w′ ≡ weightTable (kept b (taken Arc s b at) .arcs) → Tables (kept b (taken Arc s b at)) w′ f o p
@@ -81,7 +81,7 @@ module _ (s : List ℕ) (b : Book) (at : ℕ) (w f o p : List ℕ) where
         weights-are = changed;
         flags-are = held .flags-are ∙ untouched Arc s b at (λ d. flagTable (d .sets)) refl;
         owners-are = held .owners-are ∙ untouched Arc s b at (λ d. ownerTable (d .sets)) refl;
-        paths-are = held .paths-are ∙ untouched Arc s b at (λ d. pathTable (d .sets)) refl
+        paths-are = held .paths-are ∙ untouched Arc s b at (λ d. pathTable (d .sets)) refl;
       }
 
   pub tables-set : (f′ : List ℕ) → Tables b w f o p → f′ ≡ flagTable (kept b (taken RuleSet s b at) .sets) → Tables (kept b (taken RuleSet s b at)) w f′ o p
@@ -91,8 +91,8 @@ module _ (s : List ℕ) (b : Book) (at : ℕ) (w f o p : List ℕ) where
         flags-are = changed;
         owners-are = held .owners-are ∙ untouched RuleSet s b at (λ d. ownerTable (d .sets)) (ap (padded 256) (owners-set (flagsAt s at) 0 (b .sets)));
         paths-are =
-          held .paths-are
-          ∙ untouched RuleSet s b at (λ d. pathTable (d .sets)) (ap (λ l. padded 2304 (entries l)) (paths-set (flagsAt s at) (b .sets)))
+            held .paths-are
+            ∙ untouched RuleSet s b at (λ d. pathTable (d .sets)) (ap (λ l. padded 2304 (entries l)) (paths-set (flagsAt s at) (b .sets)));
       }
 
   pub tables-path : (o′ p′ : List ℕ) → Tables b w f o p
@@ -102,5 +102,5 @@ module _ (s : List ℕ) (b : Book) (at : ℕ) (w f o p : List ℕ) where
         weights-are = held .weights-are ∙ untouched Path s b at (λ d. weightTable (d .arcs)) refl;
         flags-are = held .flags-are ∙ untouched Path s b at (λ d. flagTable (d .sets)) (ap (padded 16) (flags-path (pathAt s at) (b .sets)));
         owners-are = owners;
-        paths-are = paths
+        paths-are = paths;
       }

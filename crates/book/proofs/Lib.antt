@@ -4,7 +4,7 @@ pub mod Padded
 pub mod Taken
 pub mod Added
 pub mod Copied
-pub mod Weights
 pub mod ArcField
 pub mod PathField
 pub mod Fields
+pub mod Loop

@@ -49,16 +49,16 @@ module _ (c : Counts) (s : List ℕ) (b : Book) (at : ℕ) (so-far : c ≡ count
   -- the bytes that were copied, in the definition's terms
   pub copied : (r : ℕ) → r ≡ endAt s at → c .paths < 256 → lengthAt s at ≤ 8 → (e′ : List ℕ)
       → let n = r - (at + 3) in
-        let e₀ = set e (c .paths * 9) (n % 256) in
-        (c .paths * 9 + 1 + n ≤ length e₀ → e′ ≡ paste e₀ (c .paths * 9 + 1) (slice (at + 3) (at + 3 + n) s) n)
+      let e₀ = set e (c .paths * 9) (n % 256) in
+      (c .paths * 9 + 1 + n ≤ length e₀ → e′ ≡ paste e₀ (c .paths * 9 + 1) (slice (at + 3) (at + 3 + n) s) n)
       → e′ ≡ paste (set e (c .paths * 9) (lengthAt s at % 256)) (c .paths * 9 + 1) (pathAt s at) (lengthAt s at)
   copied r end room short e′ copy =
       let n-is : r - (at + 3) ≡ lengthAt s at = omega arith in
       let end-is : at + 3 + (r - (at + 3)) ≡ endAt s at = omega arith in
       let short-paths = all-map (λ (p : List ℕ) (h : IsPath (b .count) p). h .eight) (allPaths (b .sets)) (w .paths-proper) in
       let size : length e ≡ 2304 =
-          ap length paths-held
-          ∙ length-padded 2304 (entries (allPaths (b .sets))) (omega (arith, length-entries (allPaths (b .sets)) short-paths, w .few-paths)) in
+      ap length paths-held
+      ∙ length-padded 2304 (entries (allPaths (b .sets))) (omega (arith, length-entries (allPaths (b .sets)) short-paths, w .few-paths)) in
       copy (simp length-set (omega arith))
       ∙ ap₂ (λ m t. paste (set e (c .paths * 9) (m % 256)) (c .paths * 9 + 1) (slice (at + 3) t s) m) n-is end-is
 
@@ -83,21 +83,20 @@ module _ (c : Counts) (s : List ℕ) (b : Book) (at : ℕ) (so-far : c ≡ count
 
   pub path-added : simple (c .vertices) (pathAt s at) ≡ true → c .paths < 256 → 1 ≤ c .sets → endAt s at ≤ length s → lengthAt s at ≤ 8
       → Answers (Read (record { vertices = c .vertices; arcs = c .arcs; sets = c .sets; paths = c .paths + 1 }))
-        (set o (c .paths) ((c .sets - 1) % 256))
-        (paste (set e (c .paths * 9) (lengthAt s at % 256)) (c .paths * 9 + 1) (pathAt s at) (lengthAt s at))
+      (set o (c .paths) ((c .sets - 1) % 256))
+      (paste (set e (c .paths * 9) (lengthAt s at % 256)) (c .paths * 9 + 1) (pathAt s at) (lengthAt s at))
   path-added q room some-set whole short =
       let sets-are : c .sets ≡ length (b .sets) = ap (λ (d : Counts). d .sets) so-far in
       let paths-are : c .paths ≡ length (allPaths (b .sets)) = ap (λ (d : Counts). d .paths) so-far in
       let is = taken-whole Path s b at (value-is true q) refl (lt-ltb (length (allPaths (b .sets))) 256 (omega arith)) in
       let size : length (pathAt s at) ≡ lengthAt s at = length-slice (at + 3) (endAt s at) s whole ∙ omega arith in
       let owner : (c .sets - 1) % 256 ≡ length (b .sets) - 1 = omega (arith, w .few-sets) in
-      let byte : lengthAt s at % 256 ≡ lengthAt s at = omega arith in
-      (
+      let byte : lengthAt s at % 256 ≡ lengthAt s at = omega arith in (
         ap Read (counts-path c s b at so-far some-set) ∙ sym (ap answer is),
         owner-added o (c .paths) _ (b .sets) (pathAt s at) (omega arith) owners-held paths-are room owner
-        ∙ ap (λ r. ownerTable (kept b r .sets)) (sym is),
+            ∙ ap (λ r. ownerTable (kept b r .sets)) (sym is),
         ap (λ m. paste (set e (c .paths * 9) m) (c .paths * 9 + 1) (pathAt s at) (lengthAt s at)) byte
-        ∙ entry-added e (c .paths) (lengthAt s at) (b .sets) (pathAt s at) (omega arith) paths-held paths-are room
-          (all-map (λ p h. h .eight) (allPaths (b .sets)) (w .paths-proper)) (sym size) short
-        ∙ ap (λ r. pathTable (kept b r .sets)) (sym is),
+            ∙ entry-added e (c .paths) (lengthAt s at) (b .sets) (pathAt s at) (omega arith) paths-held paths-are room
+            (all-map (λ p h. h .eight) (allPaths (b .sets)) (w .paths-proper)) (sym size) short
+            ∙ ap (λ r. pathTable (kept b r .sets)) (sym is),
       )

@@ -1,4 +1,4 @@
--- What a book means: its count of vertices, its arcs, and its rule sets.
+-- What a book means: its count of vertices, its arcs (01: changeovers, with the litres lost to slop as weights), and its rule sets.
 use Prim.Native.Nat.{ℕ, _≤_, _<_}
 use mathlib.Core.Path.{_≡_}
 use mathlib.Core.Logic.{_≢_}
@@ -6,13 +6,8 @@ use mathlib.Core.Bool.{Bool, true, false, not, _&&_, _||_}
 use mathlib.Core.List.{List, [], _∷_, _++_}
 use lib.ListN.{length}
 use lib.Dec.{eqb, leb, ltb}
+use Rattle.walks.specs.Graph.{Graph, Arc, isSome, weightIn, fromArcs}
 use Rattle.book.specs.declared.Counts.{Counts}
-
--- 01: a changeover, with the litres lost to slop as its weight
-pub record Arc : Type 0 where
-  pub tail : ℕ
-  pub head : ℕ
-  pub weight : ℕ
 
 -- 01: a sheet, with the marks that it needs as its flags and its runs as its paths, in the book's order
 pub record RuleSet : Type 0 where
@@ -24,6 +19,10 @@ pub record Book : Type 0 where
   pub count : ℕ
   pub arcs : List Arc
   pub sets : List RuleSet
+
+-- the digraph of a book
+abbrev pub graph : Book → Graph
+graph b = fromArcs (b .count) (b .arcs)
 
 -- nothing read yet
 abbrev pub blank : Book
@@ -40,9 +39,8 @@ counts b =
     record { vertices = b .count; arcs = length (b .arcs); sets = length (b .sets); paths = length (allPaths (b .sets)) }
 
 -- whether an arc from tail to head is among the arcs
-unfoldable pub given : List Arc → ℕ → ℕ → Bool
-given [] t h = false
-given (a ∷ rest) t h = eqb (a .tail) t && eqb (a .head) h || given rest t h
+abbrev pub given : List Arc → ℕ → ℕ → Bool
+given arcs tail head = isSome (weightIn arcs tail head)
 
 -- whether v is among the vertices of a list
 unfoldable pub names : List ℕ → ℕ → Bool

@@ -16,7 +16,8 @@ use Rattle.book.specs.declared.Kind.the-variants.{VertexCount, Path, Unk
 use Rattle.book.specs.Refusal.{Test, firstFailure}
 use Rattle.book.specs.RefusalLaws.{all-hold}
 use Rattle.book.specs.Tests.{and-true, or-true, or-false, either}
-use Rattle.book.specs.Book.{Arc, RuleSet, Book, blank, allPaths, given, properArc, names, simple, All, IsArc, IsPath, PairsOnce, VerticesOnce, WellFormed}
+use Rattle.walks.specs.Graph.{Arc, isSome, weightIn}
+use Rattle.book.specs.Book.{RuleSet, Book, blank, allPaths, given, properArc, names, simple, All, IsArc, IsPath, PairsOnce, VerticesOnce, WellFormed}
 use Rattle.book.specs.Reading.{Reading, accepted, refused, answer, kindAt, lengthAt, endAt, countAt, arcAt, flagsAt, pathAt, follows, fits, proper, fresh, room, framing, content, extended, addPath, outcome, field, fields, andThen, reading}
 
 -- ---- lists
@@ -38,7 +39,7 @@ is-arc count a e =
       tail-below = ltb-true _ _ (one .0);
       head-below = ltb-true _ _ (one .1);
       different = eqb-false _ _ (not-true _ (two .1));
-      light = leb-true _ _ (three .1)
+      light = leb-true _ _ (three .1);
     }
 
 pub simple-below : (count : ℕ) (p : List ℕ) → simple count p ≡ true → All (λ v. v < count) p
@@ -56,29 +57,34 @@ simple-once count (v ∷ vs) e =
     (not-true _ (and-true (ltb v count) _ (both .0) .1), simple-once count vs (both .1))
 
 -- ---- one more arc
+pub given-cons : (a : Arc) (xs : List Arc) (t h : ℕ) → given (a ∷ xs) t h ≡ (eqb (a .tail) t && eqb (a .head) h || given xs t h)
+given-cons a xs t h = go (eqb (a .tail) t && eqb (a .head) h)
+  where
+    go : (x : Bool) → isSome (cond x (some (a .weight)) (weightIn xs t h)) ≡ (x || given xs t h)
+    go true = refl
+    go false = refl
+
 given-snoc : (xs : List Arc) (a : Arc) (t h : ℕ) → given xs t h ≡ false → eqb (a .tail) t && eqb (a .head) h ≡ false
     → given (xs ++ (a ∷ [])) t h ≡ false
-unfolding given
 given-snoc [] a t h e f = rw f
 given-snoc (x ∷ xs) a t h e f =
-    let no = or-false (eqb (x .tail) t && eqb (x .head) h) (given xs t h) e in
-    rw (no .0) (given-snoc xs a t h (no .1) f)
+    let no = or-false (eqb (x .tail) t && eqb (x .head) h) (given xs t h) (sym (given-cons x xs t h) ∙ e) in
+    given-cons x (xs ++ (a ∷ [])) t h ∙ rw (no .0) (given-snoc xs a t h (no .1) f)
 
 other-pair : (p q t h : ℕ) → eqb p t && eqb q h ≡ false → eqb t p && eqb h q ≡ false
 other-pair p q t h e =
     ⊎-elim
     (λ y.
-      let same = and-true (eqb t p) (eqb h q) y in
-      let back : eqb p t && eqb q h ≡ true = rw (eq-eqb p t (sym (eqb-true t p (same .0))), eq-eqb q h (sym (eqb-true h q (same .1)))) in
-      absurd (true≢false (sym back ∙ e)))
+    let same = and-true (eqb t p) (eqb h q) y in
+    let back : eqb p t && eqb q h ≡ true = rw (eq-eqb p t (sym (eqb-true t p (same .0))), eq-eqb q h (sym (eqb-true h q (same .1)))) in
+    absurd (true≢false (sym back ∙ e)))
     (λ n. n)
     (either (eqb t p && eqb h q))
 
 pairs-snoc : (xs : List Arc) (a : Arc) → PairsOnce xs → given xs (a .tail) (a .head) ≡ false → PairsOnce (xs ++ (a ∷ []))
-unfolding given
 pairs-snoc [] a h e = (refl, tt)
 pairs-snoc (x ∷ xs) a h e =
-    let no = or-false (eqb (x .tail) (a .tail) && eqb (x .head) (a .head)) (given xs (a .tail) (a .head)) e in
+    let no = or-false (eqb (x .tail) (a .tail) && eqb (x .head) (a .head)) (given xs (a .tail) (a .head)) (sym (given-cons x xs _ _) ∙ e) in
     (given-snoc xs a _ _ (h .0) (other-pair (x .tail) (x .head) (a .tail) (a .head) (no .0)), pairs-snoc xs a (h .1) (no .1))
 
 -- ---- one more rule set, one more path
@@ -134,7 +140,7 @@ module _ (s : List ℕ) (b : Book) (at : ℕ) (b′ : Book) (e : field s b at �
         whole = leb-true _ _ (held .1 .1 .1 .0);
         value = held .1 .1 .1 .1 .0;
         once = held .1 .1 .1 .1 .1 .0;
-        space = held .1 .1 .1 .1 .1 .1 .0
+        space = held .1 .1 .1 .1 .1 .1 .0;
       }
 
 -- a field keeps a book well formed
@@ -149,10 +155,10 @@ count-well-formed n b w first low high =
       few-sets = w .few-sets;
       few-paths = w .few-paths;
       paths-proper =
-        all-map
-        (λ p h. record { two = h .two; eight = h .eight; below = all-map (λ v l. absurd (omega (arith, l))) p (h .below); once = h .once })
-        (allPaths (b .sets))
-        (w .paths-proper)
+          all-map
+          (λ p h. record { two = h .two; eight = h .eight; below = all-map (λ v l. absurd (omega (arith, l))) p (h .below); once = h .once })
+          (allPaths (b .sets))
+          (w .paths-proper);
     }
 
 arc-well-formed : (a : Arc) (b : Book) → WellFormed b → properArc (b .count) a ≡ true → given (b .arcs) (a .tail) (a .head) ≡ false
@@ -165,7 +171,7 @@ arc-well-formed a b w value once =
       pairs-once = pairs-snoc (b .arcs) a (w .pairs-once) once;
       few-sets = w .few-sets;
       few-paths = w .few-paths;
-      paths-proper = w .paths-proper
+      paths-proper = w .paths-proper;
     }
 
 set-well-formed : (f : ℕ) (b : Book) → WellFormed b → 1 ≤ b .count → length (b .sets) < 16
@@ -178,7 +184,7 @@ set-well-formed f b w low space =
       pairs-once = w .pairs-once;
       few-sets = simp length-append (omega arith);
       few-paths = rw (paths-set f (b .sets)) (w .few-paths);
-      paths-proper = rw (paths-set f (b .sets)) (w .paths-proper)
+      paths-proper = rw (paths-set f (b .sets)) (w .paths-proper);
     }
 
 path-well-formed : (p : List ℕ) (b : Book) → WellFormed b → 1 ≤ length (b .sets) → IsPath (b .count) p → length (allPaths (b .sets)) < 256
@@ -192,7 +198,7 @@ path-well-formed p b w some-set proper-path space =
       few-sets = rw (length-sets-path p (b .sets)) (w .few-sets);
       few-paths = rw (paths-path p (b .sets) some-set) (simp length-append (omega arith));
       paths-proper =
-        rw (paths-path p (b .sets) some-set) (all-snoc (IsPath (b .count)) (allPaths (b .sets)) p (w .paths-proper) proper-path)
+          rw (paths-path p (b .sets) some-set) (all-snoc (IsPath (b .count)) (allPaths (b .sets)) p (w .paths-proper) proper-path);
     }
 
 pub not-zero : (n : ℕ) → not (eqb n 0) ≡ true → 1 ≤ n
@@ -215,7 +221,7 @@ extended-well-formed Path s b at w order fit whole value once space =
       two = rw size (leb-true _ _ (limits .0));
       eight = rw size (leb-true _ _ (limits .1));
       below = simple-below (b .count) (pathAt s at) value;
-      once = simple-once (b .count) (pathAt s at) value
+      once = simple-once (b .count) (pathAt s at) value;
     })
     (ltb-true _ _ space)
 extended-well-formed Unknown s b at w order fit whole value once space = w
@@ -245,7 +251,7 @@ field-is-book s b at b′ w e =
     let p = field-passed s b at b′ e in
     record {
       well-formed = field-well-formed s b at b′ w e;
-      some-vertex = rw (field-extends s b at b′ e) (extended-counted (kindAt s at) s b at w (p .order) (p .value))
+      some-vertex = rw (field-extends s b at b′ e) (extended-counted (kindAt s at) s b at w (p .order) (p .value));
     }
 
 and-then-accepted : (r : Reading) (f : Book → Reading) (b′ : Book) → andThen r f ≡ accepted b′ → (b : Book) × (r ≡ accepted b) × (f b ≡ accepted b′)

@@ -3,7 +3,7 @@ use Prim.Native.Nat.{ℕ}
 use mathlib.Core.Path.{_≡_, refl}
 use mathlib.Core.List.{List, [], _∷_, _++_}
 use Rattle.book.specs.declared.Refusal.the-variants.{Truncated, Value}
-use Rattle.book.specs.Book.{Book, allPaths, given, names, simple}
+use Rattle.book.specs.Book.{Book, allPaths, names, simple}
 use Rattle.book.specs.Reading.{accepted, refused, reading, fields, addPath}
 
 -- Book A of 01
@@ -27,21 +27,21 @@ bookA =
     record {
       count = 4;
       arcs =
-        record { tail = 0; head = 1; weight = 100 }
-        ∷ record { tail = 1; head = 2; weight = 100 }
-        ∷ record { tail = 2; head = 3; weight = 100 }
-        ∷ record { tail = 0; head = 2; weight = 250 }
-        ∷ record { tail = 2; head = 1; weight = 50 }
-        ∷ record { tail = 1; head = 3; weight = 400 }
-        ∷ [];
+          record { tail = 0; head = 1; weight = 100 }
+          ∷ record { tail = 1; head = 2; weight = 100 }
+          ∷ record { tail = 2; head = 3; weight = 100 }
+          ∷ record { tail = 0; head = 2; weight = 250 }
+          ∷ record { tail = 2; head = 1; weight = 50 }
+          ∷ record { tail = 1; head = 3; weight = 400 }
+          ∷ [];
       sets =
-        record { flags = 1; paths = (0 ∷ 1 ∷ 2 ∷ 3 ∷ []) ∷ [] }
-        ∷ record { flags = 2; paths = (0 ∷ 2 ∷ 3 ∷ []) ∷ [] }
-        ∷ []
+          record { flags = 1; paths = (0 ∷ 1 ∷ 2 ∷ 3 ∷ []) ∷ [] }
+          ∷ record { flags = 2; paths = (0 ∷ 2 ∷ 3 ∷ []) ∷ [] }
+          ∷ [];
     }
 
 pub book-A : reading bytesA ≡ accepted bookA
-unfolding reading fields given names simple addPath allPaths
+unfolding reading fields names simple addPath allPaths
 book-A = refl
 
 pub count-64 : reading (0x01 ∷ 0x00 ∷ 0x01 ∷ 0x40 ∷ []) ≡ accepted (record { count = 64; arcs = []; sets = [] })

@@ -14,7 +14,8 @@ use Rattle.book.specs.declared.Counts.{Counts}
 use Rattle.book.specs.declared.Kind.{Kind}
 use Rattle.book.specs.declared.Kind.the-variants.{VertexCount, Path, Unknown}
 use Rattle.book.specs.Refusal.{Test, firstFailure}
-use Rattle.book.specs.Book.{Arc, RuleSet, Book, blank, allPaths, counts, given, properArc, simple}
+use Rattle.walks.specs.Graph.{Arc}
+use Rattle.book.specs.Book.{RuleSet, Book, blank, allPaths, counts, given, properArc, simple}
 
 -- A byte string is a book, or is refused.
 pub data Reading : Type 0 where

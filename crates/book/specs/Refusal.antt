@@ -38,14 +38,14 @@ firstFailure (t ∷ ts) = cond (t .holds) (firstFailure ts) (some (t .refusal))
 
 -- The tests of an operation by group; one that the operation does not make is true.
 pub record Groups : Type 0 where
-  pub book : Option Refusal -- 1 to 6: the book's refusal, if it has one
-  pub areas : Bool -- 8: the lent areas are long enough
-  pub endpoints : Bool -- 7: start and end are below the count
-  pub valid : Bool -- 9: the forbidden set, and the record, are as the rules leave them
-  pub walk : Bool -- 10: what is to be checked is a walk of the book
-  pub standing : Bool -- 11: the trials are not over
-  pub named : Bool -- 12: the named path is a path that stands in the walk
-  pub room : Bool -- 13: there is room for one more forbidden path
+  pub book : Option Refusal  -- 1 to 6: the book's refusal, if it has one
+  pub areas : Bool  -- 8: the lent areas are long enough
+  pub endpoints : Bool  -- 7: start and end are below the count
+  pub valid : Bool  -- 9: the forbidden set, and the record, are as the rules leave them
+  pub walk : Bool  -- 10: what is to be checked is a walk of the book
+  pub standing : Bool  -- 11: the trials are not over
+  pub named : Bool  -- 12: the named path is a path that stands in the walk
+  pub room : Bool  -- 13: there is room for one more forbidden path
 
 -- The order between the groups: 1 to 6, 8, 7, 9, 10, 11, 12, 13.
 abbrev pub refusalOf : Groups → Option Refusal

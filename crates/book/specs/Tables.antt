@@ -3,7 +3,8 @@ use Prim.Native.Nat.{ℕ, zero, suc, _+_, _-_, _*_}
 use mathlib.Core.Path.{_≡_}
 use mathlib.Core.List.{List, [], _∷_, _++_, map}
 use lib.ListN.{length, set, replicate}
-use Rattle.book.specs.Book.{Arc, RuleSet, Book, allPaths}
+use Rattle.walks.specs.Graph.{Arc}
+use Rattle.book.specs.Book.{RuleSet, Book, allPaths}
 
 -- the mark of a pair that is no arc
 abbrev pub noArc : ℕ

@@ -9,7 +9,6 @@ ghost use Rattle.book.specs.Reading.{answer, u16At, u32At, endAt, length
 ghost use Rattle.book.specs.Reading.{field as Reading·field, fits as Reading·fits, follows as Reading·follows};
 ghost use Rattle.book.specs.Tables.{Tables, weightTable, flagTable, ownerTable, pathTable};
 ghost use Rattle.book.specs.declared.Kind.the-variants.{VertexCount, Arc, RuleSet, Path};
-
 use crate::Answer;
 use crate::Counts;
 use crate::Kind;

@@ -4,7 +4,8 @@ use borrow.Author.Tests.{not-true, not-false}
 use denote.Ref.{now}
 use mathlib.Core.Path.{_≡_, sym, _∙_}
 use native.Mathlib.Omega.{arith}
-use Rattle.book.specs.Book.{Arc, IsArc}
+use Rattle.walks.specs.Graph.{Arc}
+use Rattle.book.specs.Book.{IsArc}
 use Rattle.book.specs.BookLaws.{is-arc}
 use Rattle.book.specs.Reading.{arcAt}
 use Rattle.book.proofs.ArcField.{arc-improper, arc-repeated, arc-added}
@@ -63,7 +64,7 @@ arc-read c =
     λ i. record {
       tail = c .before .before .before .before .wide .ensures .0 i;
       head = c .before .before .wide2 .ensures .0 i;
-      weight = c .before .u32-at .ensures i
+      weight = c .before .u32-at .ensures i;
     }
 
 -- where it is proper, its pair is in the table

@@ -42,12 +42,11 @@ loop-holds c =
 loop-again : tie.Need-loop-again Inv-loop μ-loop
 loop-again c =
     let at-loop = c .before .before in
-    let a = at-loop .before .args in
-    (
+    let a = at-loop .before .args in (
       omega arith,
       λ room.
-      ap (λ d. set d (a .to + at-loop .loop .i) (getD (now (a .src)) (a .from + at-loop .loop .i) 0)) (at-loop .loop .inv .1 room)
-      ∙ paste-next (now (a .src)) (now (a .dst)) (a .from) (a .to) (a .n) (omega arith) room (at-loop .loop .i) (omega arith),
+          ap (λ d. set d (a .to + at-loop .loop .i) (getD (now (a .src)) (a .from + at-loop .loop .i) 0)) (at-loop .loop .inv .1 room)
+          ∙ paste-next (now (a .src)) (now (a .dst)) (a .from) (a .to) (a .n) (omega arith) room (at-loop .loop .i) (omega arith),
     )
 
 returns : tie.Need-returns Inv-loop μ-loop

@@ -61,21 +61,20 @@ whole c k is =
 -- what its kind answers is the field's
 finish : (c : tie.After-kind-of) (k : Kind) → c .kind-of .result ≡ k
     → let a = c .before .before .before .before .before .before .args in
-      (b : Book) → a .counts ≡ counts b → (x : Answer) (w f o p : List ℕ)
+    (b : Book) → a .counts ≡ counts b → (x : Answer) (w f o p : List ℕ)
     → x ≡ answer (taken k (now (a .bytes)) b (a .at)) → Tables (kept b (taken k (now (a .bytes)) b (a .at))) w f o p
     → (x ≡ answer (field (now (a .bytes)) b (a .at))) × Tables (kept b (field (now (a .bytes)) b (a .at))) w f o p
 finish c k is b so-far x w f o p answers tables =
     let told = c .before .before in
     let a = told .before .before .before .before .args in
     let same : taken k (now (a .bytes)) b (a .at) ≡ field (now (a .bytes)) b (a .at) =
-        sym (field-taken (now (a .bytes)) (a .at) (a .counts) b so-far _ k (sym (told .before .before .frame .ensures) ∙ told .enum-told .given .1) (sym is ∙ c .kind-of .ensures)) in
+    sym (field-taken (now (a .bytes)) (a .at) (a .counts) b so-far _ k (sym (told .before .before .frame .ensures) ∙ told .enum-told .given .1) (sym is ∙ c .kind-of .ensures)) in
     (answers ∙ ap answer same, subst (λ r. Tables (kept b r) w f o p) same tables)
 
 returns : tie.Need-returns
 returns c b so-far w held =
     let a = c .before .before .before .before .args in
-    let is = sym (field-refused (now (a .bytes)) (a .at) (a .counts) b so-far _ (sym (c .before .before .frame .ensures) ∙ c .enum-told2 .given .1)) in
-    (
+    let is = sym (field-refused (now (a .bytes)) (a .at) (a .counts) b so-far _ (sym (c .before .before .frame .ensures) ∙ c .enum-told2 .given .1)) in (
       c .enum-told2 .given .1 ∙ ap answer is,
       subst (λ r. Tables (kept b r) (now (a .weights)) (now (a .flags)) (now (a .owners)) (now (a .entries))) is held,
     )

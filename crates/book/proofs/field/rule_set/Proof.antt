@@ -40,7 +40,7 @@ returns c b so-far held =
     let a = c .before .before .args in
     let s = now (a .bytes) in
     let many : taken RuleSet s b (a .at) ≡ refused (TooMany (a .at)) =
-        taken-many RuleSet s b (a .at) refl refl (le-ltb (length (b .sets)) 16 (omega (arith, ap (λ (d : Counts). d .sets) so-far))) in
+    taken-many RuleSet s b (a .at) refl refl (le-ltb (length (b .sets)) 16 (omega (arith, ap (λ (d : Counts). d .sets) so-far))) in
     (sym (ap answer many), held ∙ ap (λ (r : Reading). flagTable (kept b r .sets)) (sym many))
 
 returns-2 : tie.Need-returns-2
@@ -49,11 +49,10 @@ returns-2 c b so-far held =
     let s = now (a .bytes) in
     let few : length (b .sets) < 16 = omega (arith, ap (λ (d : Counts). d .sets) so-far) in
     let whole : taken RuleSet s b (a .at) ≡ accepted (extended RuleSet s b (a .at)) =
-        taken-whole RuleSet s b (a .at) refl refl (lt-ltb (length (b .sets)) 16 few) in
-    (
+    taken-whole RuleSet s b (a .at) refl refl (lt-ltb (length (b .sets)) 16 few) in (
       ap Read (counts-set (a .counts) s b (a .at) so-far) ∙ sym (ap answer whole),
       flags-after-set (now (a .flags)) (a .counts .sets) (c .u16-at .result) (flagsAt s (a .at)) (b .sets) few held (ap (λ (d : Counts). d .sets) so-far) (c .u16-at .ensures .0)
-      ∙ ap (λ (r : Reading). flagTable (kept b r .sets)) (sym whole),
+          ∙ ap (λ (r : Reading). flagTable (kept b r .sets)) (sym whole),
     )
 
 pub rule-set-spec : {M : Type 1} → statement M

@@ -1,0 +1,7 @@
+pub mod Test
+pub mod Graph
+pub mod Walk
+pub mod Avoid
+pub mod Order
+pub mod Best
+pub mod BookA
