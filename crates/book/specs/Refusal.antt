@@ -1,30 +1,26 @@
 -- The refusals: 01's number and value for each, and the order between them.
-use Prim.Native.Nat.{ℕ}
-use mathlib.Core.Bool.{Bool, cond}
+use mathlib.Core.Bool.{Bool, true, false, cond}
 use mathlib.Core.List.{List, [], _∷_}
 use mathlib.Core.Option.{Option, none, some}
+use Rattle.book.specs.declared.Numbered.{Numbered}
 use Rattle.book.specs.declared.Refusal.{Refusal}
 use Rattle.book.specs.declared.Refusal.the-variants.{Truncated, Tag, Length, Value, Repeated, TooMany, Endpoint, Area, Invalid, NotAWalk, Ended, NotStanding, Full}
 
--- 01's number of a refusal, and the place that it carries, if any
-pub record Told : Type 0 where
-  pub number : ℕ
-  pub place : Option ℕ
-
-abbrev pub told : Refusal → Told
-told (Truncated at) = record { number = 1; place = some at }
-told (Tag at) = record { number = 2; place = some at }
-told (Length at) = record { number = 3; place = some at }
-told (Value at) = record { number = 4; place = some at }
-told (Repeated at) = record { number = 5; place = some at }
-told (TooMany at) = record { number = 6; place = some at }
-told Endpoint = record { number = 7; place = none }
-told Area = record { number = 8; place = none }
-told Invalid = record { number = 9; place = none }
-told NotAWalk = record { number = 10; place = none }
-told Ended = record { number = 11; place = none }
-told NotStanding = record { number = 12; place = none }
-told Full = record { number = 13; place = none }
+-- 01's number of each refusal, and the value that it carries: the byte of a book's field (or the index of a list's item)
+abbrev pub told : Refusal → Numbered
+told (Truncated at) = record { number = 1; placed = true; place = at }
+told (Tag at) = record { number = 2; placed = true; place = at }
+told (Length at) = record { number = 3; placed = true; place = at }
+told (Value at) = record { number = 4; placed = true; place = at }
+told (Repeated at) = record { number = 5; placed = true; place = at }
+told (TooMany at) = record { number = 6; placed = true; place = at }
+told Endpoint = record { number = 7; placed = false; place = 0 }
+told Area = record { number = 8; placed = false; place = 0 }
+told Invalid = record { number = 9; placed = false; place = 0 }
+told NotAWalk = record { number = 10; placed = false; place = 0 }
+told Ended = record { number = 11; placed = false; place = 0 }
+told NotStanding = record { number = 12; placed = false; place = 0 }
+told Full = record { number = 13; placed = false; place = 0 }
 
 -- A test, and the refusal of what fails it.
 pub record Test : Type 0 where

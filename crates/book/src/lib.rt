@@ -1,5 +1,7 @@
 // The book: its reader, and what a book that is read means to the layers above.
 ghost use mathlib.Core.Path.{_≡_};
+ghost use mathlib.Core.Bool.{true, false};
+ghost use Rattle.book.specs.Refusal.{told};
 ghost use Rattle.book.specs.Book.{Book};
 ghost use Rattle.book.specs.Reading.{reading, answer, accepted};
 ghost use Rattle.book.specs.Tables.{Blank, Tables};
@@ -24,6 +26,53 @@ pub enum Refusal {
     Ended,
     NotStanding,
     Full,
+}
+
+// 01's number of a refusal, and the value that it carries, if it has one.
+pub struct Numbered {
+    pub number: usize,
+    pub placed: bool,
+    pub place: usize,
+}
+
+pub fn number_of(r: Refusal) -> Numbered
+    ensures { λ n. ⌜ n ≡ told r ⌝ }
+{
+    match r {
+        Refusal::Truncated(at) => placed(1, at),
+        Refusal::Tag(at) => placed(2, at),
+        Refusal::Length(at) => placed(3, at),
+        Refusal::Value(at) => placed(4, at),
+        Refusal::Repeated(at) => placed(5, at),
+        Refusal::TooMany(at) => placed(6, at),
+        Refusal::Endpoint => bare(7),
+        Refusal::Area => bare(8),
+        Refusal::Invalid => bare(9),
+        Refusal::NotAWalk => bare(10),
+        Refusal::Ended => bare(11),
+        Refusal::NotStanding => bare(12),
+        Refusal::Full => bare(13),
+    }
+}
+
+fn placed(number: usize, place: usize) -> Numbered
+    ensures { λ n. ⌜ n ≡ record { number = number; placed = true; place = place } ⌝ }
+{
+    Numbered {
+        number,
+        placed: true,
+        place,
+    }
+}
+
+fn bare(number: usize) -> Numbered
+    ensures { λ n. ⌜ n ≡ record { number = number; placed = false; place = 0 } ⌝ }
+{
+    Numbered {
+        number,
+        placed: false,
+        place: 0,
+    }
 }
 
 // How many vertices, arcs, rule sets and forbidden paths a book has.

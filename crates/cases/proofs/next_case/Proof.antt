@@ -1,0 +1,111 @@
+-- `next_case` meets its contract: a case that was read whole is no longer than the buffer.
+use mathlib.Core.Path.{sym}
+use lib.Seq.{length-take-le}
+use borrow.Author.Needs.{needs}
+use Rattle.cases.proofs.next_case.Statement.{statement}
+use Rattle.cases.proofs.next_case.Tie as tie
+
+slice-aggregate-read-full : tie.Need-slice-aggregate-read-full
+slice-aggregate-read-full c = search needs
+
+read-full-requires : tie.Need-read-full-requires
+read-full-requires c κs = search needs
+
+returns : tie.Need-returns
+returns c = search needs
+
+array-read-wide : tie.Need-array-read-wide
+array-read-wide c = search needs
+
+wide-requires : tie.Need-wide-requires
+wide-requires c κs = search needs
+
+mul-size : tie.Need-mul-size
+mul-size c = search needs
+
+array-read-wide-2 : tie.Need-array-read-wide-2
+array-read-wide-2 c = search needs
+
+wide-requires-2 : tie.Need-wide-requires-2
+wide-requires-2 c κs = search needs
+
+add-size : tie.Need-add-size
+add-size c = search needs
+
+mul-size-2 : tie.Need-mul-size-2
+mul-size-2 c = search needs
+
+array-read-wide-3 : tie.Need-array-read-wide-3
+array-read-wide-3 c = search needs
+
+wide-requires-3 : tie.Need-wide-requires-3
+wide-requires-3 c κs = search needs
+
+add-size-2 : tie.Need-add-size-2
+add-size-2 c = search needs
+
+mul-size-3 : tie.Need-mul-size-3
+mul-size-3 c = search needs
+
+array-read-wide-4 : tie.Need-array-read-wide-4
+array-read-wide-4 c = search needs
+
+wide-requires-4 : tie.Need-wide-requires-4
+wide-requires-4 c κs = search needs
+
+add-size-3 : tie.Need-add-size-3
+add-size-3 c = search needs
+
+returns-2 : tie.Need-returns-2
+returns-2 c = search needs
+
+slice-relend-prefix-read-full : tie.Need-slice-relend-prefix-read-full
+slice-relend-prefix-read-full c = search needs
+
+slice-aggregate-read-full-2 : tie.Need-slice-aggregate-read-full-2
+slice-aggregate-read-full-2 c = sym (length-take-le _ _ (c .before .if2 .left))
+
+read-full-requires-2 : tie.Need-read-full-requires-2
+read-full-requires-2 c κs = search needs
+
+same-length : tie.Need-same-length
+same-length c = search needs
+
+returns-3 : tie.Need-returns-3
+returns-3 c = search needs
+
+same-length-2 : tie.Need-same-length-2
+same-length-2 c = search needs
+
+returns-4 : tie.Need-returns-4
+returns-4 c = search needs
+
+pub next-case-spec : {M : Type 1} → statement M
+next-case-spec =
+    tie.close
+    (tie.spec
+    slice-aggregate-read-full
+    read-full-requires
+    returns
+    array-read-wide
+    wide-requires
+    mul-size
+    array-read-wide-2
+    wide-requires-2
+    add-size
+    mul-size-2
+    array-read-wide-3
+    wide-requires-3
+    add-size-2
+    mul-size-3
+    array-read-wide-4
+    wide-requires-4
+    add-size-3
+    returns-2
+    slice-relend-prefix-read-full
+    slice-aggregate-read-full-2
+    read-full-requires-2
+    same-length
+    returns-3
+    same-length-2
+    returns-4)

@@ -1,0 +1,18 @@
+-- What a reader must believe: Edge and Table (the graph, its paths, tables and passes), Pack (weight and edges in one number),
+-- and Ready, Chain and Settle for the contracts of the code. The rest are theorems.
+pub mod Edge
+pub mod Table
+pub mod Test
+pub mod Pass
+pub mod Settled
+pub mod Pigeonhole
+pub mod Shorten
+pub mod Bellman
+pub mod Certificate
+pub mod Reverse
+pub mod Pack
+pub mod Example
+pub mod Columns
+pub mod Ready
+pub mod Chain
+pub mod Settle

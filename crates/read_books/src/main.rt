@@ -1,0 +1,104 @@
+// Reads a stream of books, and writes what each means, or its refusal.
+ghost use Prim.Native.Nat.{_<_};
+use book::Answer;
+use book::Counts;
+use book::NO_ARC;
+use cases::Next;
+use cases::number;
+use cases::text;
+use cases::wide;
+
+fn wide16(x: u16) -> usize {
+    x as usize
+}
+
+fn wide32(x: u32) -> usize {
+    x as usize
+}
+
+fn write_counts(c: Counts) {
+    text(b"GRADES");
+    number(c.vertices);
+    text(b" CHANGEOVERS");
+    number(c.arcs);
+    text(b" SHEETS");
+    number(c.sets);
+    text(b" RUNS");
+    number(c.paths);
+    text(b"\n");
+}
+
+// In rising order of tail, then head.
+fn write_arcs(weights: &[u32; 4096]) {
+    for pair in 0..4096usize {
+        let weight = weights[pair];
+        if weight != NO_ARC {
+            text(b"ARC");
+            number(pair / 64);
+            number(pair % 64);
+            number(wide32(weight));
+            text(b"\n");
+        }
+    }
+}
+
+fn write_path(entries: &[u8; 2304], j: usize)
+    requires { ⌜ j < 256 ⌝ }
+{
+    text(b"RUN");
+    let n = wide(entries[j * 9]);
+    for k in 0..8usize {
+        if k < n {
+            number(wide(entries[j * 9 + 1 + k]));
+        }
+    }
+    text(b"\n");
+}
+
+fn write_paths_of(set: usize, count: usize, owners: &[u8; 256], entries: &[u8; 2304]) {
+    for j in 0..256usize {
+        if j < count {
+            if wide(owners[j]) == set {
+                write_path(entries, j);
+            }
+        }
+    }
+}
+
+fn write_sets(c: Counts, flags: &[u16; 16], owners: &[u8; 256], entries: &[u8; 2304]) {
+    for set in 0..16usize {
+        if set < c.sets {
+            text(b"SHEET");
+            number(wide16(flags[set]));
+            text(b"\n");
+            write_paths_of(set, c.paths, owners, entries);
+        }
+    }
+}
+
+fn write_book(bytes: &[u8]) {
+    let mut weights = [NO_ARC; 4096];
+    let mut flags = [0u16; 16];
+    let mut owners = [0u8; 256];
+    let mut entries = [0u8; 2304];
+    match book::load(bytes, &mut weights, &mut flags, &mut owners, &mut entries) {
+        Answer::Read(counts) => {
+            write_counts(counts);
+            write_arcs(&weights);
+            write_sets(counts, &flags, &owners, &entries);
+        }
+        Answer::Refused(r) => cases::refusal(r),
+    }
+}
+
+fn main() {
+    let mut space = [0u8; 65536];
+    let buffer: &mut [u8] = &mut space;
+    for _ in 0..65536usize {
+        let next = cases::next_case(buffer);
+        let Next::Case(size) = next else {
+            return;
+        };
+        write_book(&buffer[..size]);
+    }
+}
