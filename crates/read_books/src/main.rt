@@ -92,7 +92,7 @@ fn write_book(bytes: &[u8]) {
 }
 
 fn main() {
-    let mut space = [0u8; 65536];
+    let mut space = io::large_buffer();
     let buffer: &mut [u8] = &mut space;
     for _ in 0..65536usize {
         let next = cases::next_case(buffer);

@@ -14,6 +14,9 @@ Inv-loop buffer₀ counter₀ buffer counter = (counter ≤ 65536)
 abbrev μ-loop : tie.MeasureT-loop
 μ-loop buffer₀ counter₀ buffer counter = 65536 - counter
 
+large-buffer-requires : tie.Need-large-buffer-requires Inv-loop μ-loop
+large-buffer-requires c κs = search needs
+
 slice-aggregate-buffer : tie.Need-slice-aggregate-buffer Inv-loop μ-loop
 slice-aggregate-buffer c = search needs
 
@@ -62,6 +65,7 @@ main-spec =
     (tie.spec
     Inv-loop
     μ-loop
+    large-buffer-requires
     slice-aggregate-buffer
     loop-holds
     next-case-requires
