@@ -9,7 +9,7 @@ use lib.Dec.{T, T-not, not-T}
 use lib.ListN.{length, take, drop, take-append-drop, length-append, length-reverse, length-take}
 use lib.Seq.{take-length, take-at, getD-take}
 use mir.Facts.{or-yes}
-use Rattle.walks.specs.Test.{conj, any, any→some, some→any, or-left, or-right, T-ext}
+use Rattle.lists.specs.Test.{conj, any, any→some, some→any, or-left, or-right, T-ext}
 use Rattle.walks.specs.Avoid.{Occurs, occurs, isPrefix, isPrefix→append, append→isPrefix, isPrefix-refl, same, same→≡, same-refl, occurs→Occurs, Occurs→occurs, Occurs·reverse, Avoids, Long}
 use Rattle.automaton.specs.Longest.{longest, longest-is, longest-cons, isPrefix→longest, longest→isPrefix}
 use Rattle.automaton.specs.States.{State, prefix, isState, latest, State·closed, isState→State, State→isState}

@@ -7,7 +7,7 @@ use mathlib.Core.Path.{_≡_, refl}
 use Prim.Native.Nat.{ℕ, suc, _+_, _<_}
 use lib.Dec.{T, T-not, eqb, eqb→eq, eqb-refl, ltb, ltb→lt, leb, leb→le}
 use mir.Facts.{or-yes}
-use Rattle.walks.specs.Test.{conj, any, any→some, all, all→each, allBelow, allBelow→each, implies, implies→}
+use Rattle.lists.specs.Test.{conj, any, any→some, all, all→each, allBelow, allBelow→each, implies, implies→}
 use Rattle.walks.specs.Graph.{Graph, isArc, arcWeight}
 use Rattle.walks.specs.Avoid.{same, same→≡, avoids, avoids→Avoids}
 use Rattle.walks.specs.Best.{Best, None}

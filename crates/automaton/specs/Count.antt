@@ -10,7 +10,7 @@ use lib.ListN.{length, getD, take, drop, length-append, length-reverse}
 use lib.Seq.{take-at, length-take-le, split-at}
 use Rattle.walks.specs.Avoid.{_⊆_}
 use Rattle.automaton.specs.States.{State, vertex, prefix, latest}
-use Rattle.automaton.specs.Distinct.{Distinct, distinct-length, dedup}
+use Rattle.lists.specs.Distinct.{Distinct, distinct-length, dedup}
 
 -- The single vertices below n.
 abbrev pub vertices : ℕ → List (List ℕ)

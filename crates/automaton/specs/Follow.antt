@@ -7,7 +7,7 @@ use Prim.Native.Nat.{ℕ, _<_}
 use native.Mathlib.Omega.{arith}
 use lib.Dec.{T}
 use lib.ListN.{length, getD}
-use Rattle.walks.specs.Test.{conj}
+use Rattle.lists.specs.Test.{conj}
 use Rattle.walks.specs.Graph.{Graph, isArc}
 use Rattle.walks.specs.Walk.{Walk, Walk·single, Walk·cons, Walk·tail}
 use Rattle.walks.specs.Avoid.{Avoids, Avoids·front}

@@ -2,7 +2,6 @@ pub mod Longest
 pub mod States
 pub mod Automaton
 pub mod Follow
-pub mod Distinct
 pub mod Count
 pub mod Cost
 pub mod Greedy

@@ -13,7 +13,7 @@ use Rattle.walks.specs.Best.{Feasible·cons, Best}
 use Rattle.automaton.specs.States.{State, vertex, latest}
 use Rattle.automaton.specs.Automaton.{go, go-state, latest-go}
 use Rattle.automaton.specs.Follow.{Follows, feasible-follows}
-use Rattle.automaton.specs.Distinct.{Distinct}
+use Rattle.lists.specs.Distinct.{Distinct}
 use Rattle.automaton.specs.Count.{state-count}
 use Rattle.automaton.specs.Cost.{_≤ᶜ_, costOf, via-cancel}
 

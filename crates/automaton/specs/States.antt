@@ -6,7 +6,7 @@ use Prim.Native.Nat.{ℕ, _<_}
 use native.Mathlib.Omega.{arith}
 use lib.Dec.{T, ltb, ltb→lt, lt→ltb}
 use lib.ListN.{length, getD, length-append, length-reverse}
-use Rattle.walks.specs.Test.{conj, any, any→some, some→any}
+use Rattle.lists.specs.Test.{conj, any, any→some, some→any}
 use Rattle.walks.specs.Avoid.{isPrefix, isPrefix→append, append→isPrefix}
 
 -- q is a proper prefix of r.

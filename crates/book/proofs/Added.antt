@@ -1,9 +1,8 @@
 -- What a field adds: to the lists that a book's tables stand for, and to its counts.
-use Prim.Native.Nat.{ℕ, zero, suc, _+_, _-_, _*_, _≤_, _<_}
+use Prim.Native.Nat.{ℕ, suc, _+_, _-_, _*_, _≤_, _<_}
 use mathlib.Core.Path.{_≡_, refl, sym, ap, ap₂, _∙_}
-use mathlib.Core.List.{List, [], _∷_, _++_, append-nil, append-assoc, map, map-append}
+use mathlib.Core.List.{List, [], _∷_, _++_, append-nil, append-assoc}
 use native.Mathlib.Nat.{add-zero}
-use native.Mathlib.Numerals.{add-one}
 use native.Mathlib.Omega.{arith}
 use lib.ListN.{length, set, replicate, length-append, length-replicate, length-map, replicate-append-replicate}
 use Rattle.book.specs.declared.Counts.{Counts}
@@ -11,9 +10,9 @@ use Rattle.book.specs.declared.Kind.the-variants.{VertexCount, Arc, Rule
 use Rattle.walks.specs.Graph.{Arc as Book·Arc}
 use Rattle.book.specs.Book.{RuleSet as Book·RuleSet, Book, All, allPaths, counts}
 use Rattle.book.specs.Reading.{countAt, arcAt, flagsAt, pathAt, extended, addPath}
-use Rattle.book.specs.Tables.{entered, weightTable, flagsOf, ownersFrom, entry, entries, padded, flagTable, ownerTable, pathTable}
+use Rattle.book.specs.Tables.{entered, flagsOf, ownersFrom, entry, entries, padded, flagTable}
 use Rattle.book.specs.BookLaws.{bare, paths-set, length-sets-path, paths-path}
-use Rattle.book.proofs.Padded.{padded-set, padded-entry}
+use Rattle.book.proofs.Padded.{padded-set}
 
 -- ---- an arc
 pub entered-arc : (t : List ℕ) (xs : List Book·Arc) (a : Book·Arc)

@@ -1,10 +1,10 @@
 -- A copy of a part of one list into another, an element a turn.
 use Prim.Native.Nat.{ℕ, _+_, _≤_, _<_}
-use mathlib.Core.Path.{_≡_, refl, sym, ap, _∙_}
+use mathlib.Core.Path.{_≡_, sym, ap, _∙_}
 use mathlib.Core.List.{List}
 use native.Mathlib.Numerals.{add-one}
 use native.Mathlib.Omega.{arith}
-use lib.ListN.{length, getD, set, take, length-take, length-drop}
+use lib.ListN.{length, getD, set, take}
 use lib.Seq.{slice, paste, paste-suc, getD-drop, getD-take, length-slice}
 
 module _ (src dst : List ℕ) (from to n : ℕ) (held : from + n ≤ length src) (room : to + n ≤ length dst) where

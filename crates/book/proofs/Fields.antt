@@ -1,14 +1,13 @@
 -- A field whose frame is whole is its value's; a frame that is refused is the field's refusal.
-use Prim.Native.Nat.{ℕ, _+_, _≤_}
+use Prim.Native.Nat.{ℕ, _≤_}
 use mathlib.Core.Path.{_≡_, refl, sym, ap, subst, _∙_}
 use mathlib.Core.Bool.{true}
-use mathlib.Core.List.{List, _++_}
+use mathlib.Core.List.{List}
 use mathlib.Core.Option.{Option, none, some}
 use native.Mathlib.Omega.{arith}
 use borrow.Author.Tests.{leb-true}
 use lib.ListN.{length}
 use Rattle.book.specs.declared.Refusal.{Refusal}
-use Rattle.book.specs.declared.Answer.{Answer}
 use Rattle.book.specs.declared.Answer.the-variants.{Read, Refused}
 use Rattle.book.specs.declared.Counts.{Counts}
 use Rattle.book.specs.declared.Kind.{Kind}
@@ -17,7 +16,7 @@ use Rattle.book.specs.Refusal.{firstFailure}
 use Rattle.book.specs.RefusalLaws.{all-hold, first-of-append, first-kept}
 use Rattle.book.specs.Book.{Book, counts}
 use Rattle.book.specs.BookLaws.{paths-set}
-use Rattle.book.specs.Reading.{Reading, refused, answer, verdict, kindAt, lengthAt, endAt, flagsAt, pathAt, follows, fits, framing, content, framed, extended, outcome, taken, kept, field}
+use Rattle.book.specs.Reading.{refused, verdict, kindAt, lengthAt, endAt, flagsAt, pathAt, follows, fits, framing, content, framed, extended, outcome, taken, kept, field}
 use Rattle.book.specs.Tables.{Tables, weightTable, flagTable, ownerTable, pathTable, padded, entries}
 use Rattle.book.proofs.Added.{owners-set, flags-path}
 

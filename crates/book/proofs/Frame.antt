@@ -1,14 +1,12 @@
 -- The tests of a field's frame: what each that fails answers, what is known where none does, and what a field is then.
 use Prim.Native.Nat.{ℕ, _+_, _≤_, _<_}
-use mathlib.Core.Path.{_≡_, refl, sym, ap, ap₂, _∙_}
-use mathlib.Core.Bool.{Bool, true, false}
-use mathlib.Core.List.{List, [], _∷_}
-use native.Mathlib.Omega.{arith}
-use borrow.Author.Tests.{le-leb, lt-leb, leb-true}
+use mathlib.Core.Path.{_≡_, sym, ap, ap₂, _∙_}
+use mathlib.Core.Bool.{true, false}
+use mathlib.Core.List.{List}
+use borrow.Author.Tests.{le-leb, lt-leb}
 use lib.ListN.{length}
 use Rattle.book.specs.declared.Refusal.the-variants.{Truncated, Tag, Length}
 use Rattle.book.specs.declared.Counts.{Counts}
-use Rattle.book.specs.declared.Answer.{Answer}
 use Rattle.book.specs.declared.Answer.the-variants.{Read, Refused}
 use Rattle.book.specs.Reading.{kindAt, lengthAt, endAt, follows, fits, framed}
 

@@ -15,7 +15,7 @@ use Rattle.book.specs.declared.Refusal.the-variants.{Value, TooMany}
 use Rattle.book.specs.Book.{Book, RuleSet, All, IsPath, WellFormed, allPaths, counts, simple}
 use Rattle.book.specs.BookLaws.{all-map, paths-path}
 use Rattle.book.specs.Reading.{Reading, answer, addPath, endAt, lengthAt, pathAt, taken, kept, proper}
-use Rattle.book.specs.Tables.{ownersFrom, entries, entry, padded, ownerTable, pathTable}
+use Rattle.book.specs.Tables.{ownersFrom, entries, padded, ownerTable, pathTable}
 use Rattle.book.proofs.Added.{counts-path, owners-path, length-owners, entries-path, length-entries}
 use Rattle.book.proofs.Padded.{length-padded, padded-set, padded-entry}
 use Rattle.book.proofs.Taken.{taken-value, taken-many, taken-whole}

@@ -1,12 +1,13 @@
 -- Laws of a book's meaning: every book that is read is well formed.
 use Prim.Native.Nat.{ℕ, zero, suc, _+_, _-_, _≤_, _<_}
-use mathlib.Core.Path.{_≡_, refl, sym, ap, subst, _∙_}
+use mathlib.Core.Path.{_≡_, refl, sym, ap, subst, fun-ext, _∙_}
 use mathlib.Core.Logic.{⊎-elim}
 use mathlib.Core.Bool.{Bool, true, false, cond, not, _&&_, _||_, true≢false, false≢true}
 use mathlib.Core.List.{List, [], _∷_, _++_, append-assoc, append-nil}
 use mathlib.Core.Option.{Option, none, some}
+use native.Mathlib.Nat.{zero-add, suc-add}
 use native.Mathlib.Omega.{arith}
-use borrow.Author.Tests.{ltb-true, leb-true, eqb-true, eqb-false, eq-eqb, lt-ltb, not-true}
+use borrow.Author.Tests.{ltb-true, leb-true, eqb-true, eqb-false, eq-eqb, lt-ltb, le-ltb, not-true}
 use lib.Dec.{eqb, leb, ltb}
 use lib.ListN.{length, length-append}
 use lib.Seq.{length-slice}
@@ -15,10 +16,10 @@ use Rattle.book.specs.declared.Kind.{Kind}
 use Rattle.book.specs.declared.Kind.the-variants.{VertexCount, Path, Unknown}
 use Rattle.book.specs.Refusal.{Test, firstFailure}
 use Rattle.book.specs.RefusalLaws.{all-hold}
-use Rattle.book.specs.Tests.{and-true, or-true, or-false, either}
+use Rattle.lists.specs.Test.{and-true, or-false, either}
 use Rattle.walks.specs.Graph.{Arc, isSome, weightIn}
 use Rattle.book.specs.Book.{RuleSet, Book, blank, allPaths, given, properArc, names, simple, All, IsArc, IsPath, PairsOnce, VerticesOnce, WellFormed}
-use Rattle.book.specs.Reading.{Reading, accepted, refused, answer, kindAt, lengthAt, endAt, countAt, arcAt, flagsAt, pathAt, follows, fits, proper, fresh, room, framing, content, extended, addPath, outcome, field, fields, andThen, reading}
+use Rattle.book.specs.Reading.{Reading, accepted, refused, kindAt, lengthAt, endAt, countAt, arcAt, flagsAt, pathAt, follows, fits, proper, fresh, room, framing, content, extended, addPath, outcome, field, fields, andThen, reading}
 
 -- ---- lists
 pub all-map : {A : Type 0} {P Q : A → Type 0} → ((x : A) → P x → Q x) → (xs : List A) → All P xs → All Q xs
@@ -281,3 +282,19 @@ reading-is-book [] b e = absurd (let z : _≡_ {A = ℕ} 0 1 = cc in omega arith
 reading-is-book (x ∷ s) b e =
     let (b₁, here, rest) = and-then-accepted (field (x ∷ s) blank 0) _ b (rw (lt-ltb 0 (length (x ∷ s)) (omega arith)) at e) in
     fields-is-book (length s) (x ∷ s) b₁ _ b (field-is-book (x ∷ s) blank 0 b₁ blank-well-formed here) rest
+
+-- The turns of `reading` never run out: more of them change nothing.
+fields-more : (turns more : ℕ) (s : List ℕ) (b : Book) (at : ℕ) → length s ≤ at + turns → fields (turns + more) s b at ≡ fields turns s b at
+unfolding fields
+fields-more zero zero s b at enough = refl
+fields-more zero (suc more) s b at enough = rw (zero-add, le-ltb at (length s) (omega arith))
+fields-more (suc turns) more s b at enough =
+    rw suc-add
+    (ap (λ f. cond (ltb at (length s)) (andThen (field s b at) f) (accepted b))
+    (fun-ext (λ b′. fields-more turns more s b′ (endAt s at) (omega arith))))
+
+pub enough-turns : (turns x : ℕ) (s : List ℕ) → length (x ∷ s) ≤ turns → fields turns (x ∷ s) blank 0 ≡ reading (x ∷ s)
+unfolding reading
+enough-turns turns x s enough =
+    let spare : turns ≡ length (x ∷ s) + (turns - length (x ∷ s)) = omega arith in
+    ap (λ k. fields k (x ∷ s) blank 0) spare ∙ fields-more (length (x ∷ s)) (turns - length (x ∷ s)) (x ∷ s) blank 0 (omega arith)

@@ -1,7 +1,7 @@
 -- Sums of 01 on reading, computed from the definition.
 use Prim.Native.Nat.{ℕ}
 use mathlib.Core.Path.{_≡_, refl}
-use mathlib.Core.List.{List, [], _∷_, _++_}
+use mathlib.Core.List.{List, [], _∷_}
 use Rattle.book.specs.declared.Refusal.the-variants.{Truncated, Value}
 use Rattle.book.specs.Book.{Book, allPaths, names, simple}
 use Rattle.book.specs.Reading.{accepted, refused, reading, fields, addPath}

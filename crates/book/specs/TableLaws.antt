@@ -1,8 +1,7 @@
 -- Laws of a book's arcs and of its table of weights.
-use Prim.Native.Nat.{ℕ, suc, _+_, _*_, _≤_, _<_}
+use Prim.Native.Nat.{ℕ, _+_, _*_, _≤_, _<_}
 use mathlib.Core.Path.{_≡_, refl, sym, ap, ap₂, _∙_}
-use mathlib.Core.Logic.{_⊎_, ⊎-elim}
-use mathlib.Core.Bool.{Bool, true, false, cond, _&&_, true≢false, false≢true}
+use mathlib.Core.Bool.{Bool, true, false, cond, _&&_, true≢false}
 use mathlib.Core.List.{List, [], _∷_}
 use mathlib.Core.Option.{Option, none, some, Option·getD}
 use native.Mathlib.Omega.{arith}
@@ -11,7 +10,7 @@ use lib.Dec.{eqb}
 use lib.ListN.{length, getD, set, replicate, length-set, length-replicate, getD-replicate}
 use lib.Seq.{getD-set-same, getD-set-other}
 use Rattle.walks.specs.Graph.{Arc, isSome, weightIn}
-use Rattle.book.specs.Tests.{and-true, either}
+use Rattle.lists.specs.Test.{and-true}
 use Rattle.book.specs.Book.{Book, All, IsArc, PairsOnce, WellFormed, given}
 use Rattle.book.specs.BookLaws.{all-map}
 use Rattle.book.specs.Tables.{noArc, entered, weightTable}

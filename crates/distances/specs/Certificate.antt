@@ -10,7 +10,8 @@ use lib.ListN.{length, List·getD-eq-default}
 use lib.Dec.{T, leb, ltb, eqb, leb→le, ltb→lt, eqb→eq}
 use Rattle.distances.specs.Edge.{Edge, _∈_, cost}
 use Rattle.distances.specs.Table.{at, Attained, Least, settled}
-use Rattle.distances.specs.Test.{T-and, T-or}
+use Rattle.lists.specs.Test.{T-and}
+use mir.Facts.{or-yes}
 use Rattle.distances.specs.Settled.{settled-attained}
 
 -- an edge from q, not free, that gives q its entry
@@ -41,7 +42,7 @@ given-edge (e ∷ es) t q h =
     let (paid, entry) = T-and (ltb 0 (e .cost)) (eqb (at t q) (at t (e .head) + e .cost)) rest in
     (e, List·Memᴰ·head refl, eqb→eq _ _ tail, ltb→lt _ _ paid, eqb→eq _ _ entry))
     (λ later. let (x, m, tail, paid, entry) = given-edge es t q later in (x, List·Memᴰ·tail m, tail, paid, entry))
-    (T-or (gives t q e) (given es t q) h)
+    (or-yes (gives t q e) (given es t q) h)
 
 abbrev Accounted : List Edge → List ℕ → List ℕ → ℕ → Type 0
 Accounted es base t q = (at t q ≤ at base q) × ((at base q ≤ at t q) ⊎ Given es t q)
@@ -52,7 +53,7 @@ accounted-at es base t (suc n) h q l =
     let (now, rest) = T-and (leb (at t n) (at base n) && (leb (at base n) (at t n) || given es t n)) (accounted es base t n) h in
     let (low, why) = T-and (leb (at t n) (at base n)) (leb (at base n) (at t n) || given es t n) now in
     by-cases (ℕ-discrete q n)
-    (λ i. rw i (leb→le _ _ low, ⊎-elim (λ b. inl (leb→le _ _ b)) (λ g. inr (given-edge es t n g)) (T-or (leb (at base n) (at t n)) (given es t n) why)))
+    (λ i. rw i (leb→le _ _ low, ⊎-elim (λ b. inl (leb→le _ _ b)) (λ g. inr (given-edge es t n g)) (or-yes (leb (at base n) (at t n)) (given es t n) why)))
     (λ d. accounted-at es base t n rest q (omega arith))
 
 -- following the given edges lowers the entry, and ends at a base entry

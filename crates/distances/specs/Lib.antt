@@ -2,7 +2,6 @@
 -- and Ready, Chain and Settle for the contracts of the code. The rest are theorems.
 pub mod Edge
 pub mod Table
-pub mod Test
 pub mod Pass
 pub mod Settled
 pub mod Pigeonhole

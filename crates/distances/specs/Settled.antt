@@ -10,7 +10,8 @@ use lib.Seq.{set-getD}
 use lib.Dec.{T, leb, leb→le, le→leb}
 use Rattle.distances.specs.Edge.{Edge, _∈_, Path, cost}
 use Rattle.distances.specs.Table.{at, Attained, Least, relaxes, pass, passes, settled}
-use Rattle.distances.specs.Test.{T-and, and-T}
+use lib.Ieee.Fits.{and-i}
+use Rattle.lists.specs.Test.{T-and}
 use Rattle.distances.specs.Pass.{pass-edge, passes-least}
 
 pub least-unique : {es : List Edge} {base : List ℕ} {q d d′ : ℕ} → Least es base q d → Least es base q d′ → d ≡ d′
@@ -30,7 +31,7 @@ settled-edge t h (List·Memᴰ·tail {x} {xs} m) = settled-edge t (settled-cons 
 pub edge-settled : (es : List Edge) (t : List ℕ) → ((e : Edge) → e ∈ es → at t (e .tail) ≤ at t (e .head) + e .cost) → T (settled es t)
 edge-settled [] t h = tt
 edge-settled (e ∷ es) t h =
-    and-T (leb (at t (e .tail)) (at t (e .head) + e .cost)) (settled es t) (le→leb _ _ (h e (List·Memᴰ·head refl))) (edge-settled es t (λ x m. h x (List·Memᴰ·tail m)))
+    and-i (leb (at t (e .tail)) (at t (e .head) + e .cost)) (settled es t) (le→leb _ _ (h e (List·Memᴰ·head refl))) (edge-settled es t (λ x m. h x (List·Memᴰ·tail m)))
 
 relaxes-settled : (es : List Edge) (t : List ℕ) → T (settled es t) → relaxes t es t ≡ t
 relaxes-settled [] t h = refl

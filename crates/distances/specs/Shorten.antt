@@ -5,7 +5,9 @@ use mathlib.Core.Logic.{⊎-elim, by-cases}
 use native.Mathlib.Omega.{arith}
 use lib.ListN.{length, length-map}
 use Rattle.distances.specs.Edge.{Edge, Path, total, cost, Within}
-use Rattle.distances.specs.Pigeonhole.{Distinct, mem-dec, pigeonhole}
+use native.Mathlib.Decide.{ℕ-discrete}
+use Rattle.lists.specs.Distinct.{Distinct, mem?}
+use Rattle.distances.specs.Pigeonhole.{pigeonhole}
 use Rattle.distances.specs.Table.{at, Least, LeastWithin, passes}
 use Rattle.distances.specs.Pass.{passes-least}
 
@@ -33,7 +35,7 @@ pub simple : (es : List Edge) (p : List Edge) (q r : ℕ) → Path es q r p → 
 simple es [] q r path = ([], path, (List·Memᴰ·not-nil, tt), λ f. omega arith)
 simple es (e ∷ p) q r (m, t, path) =
     let (p′, path′, d, le) = simple es p (e .head) r path in
-    by-cases (mem-dec q (visits (e .head) p′))
+    by-cases (mem? ℕ-discrete q (visits (e .head) p′))
     (λ k. let (p″, path″, d″, le″) = from-visited es p′ (e .head) r q path′ d k in (p″, path″, d″, λ f. omega (arith, le f, le″ f)))
     (λ n. (e ∷ p′, (m, t, path′), (n, d), λ f. omega (arith, le f)))
 

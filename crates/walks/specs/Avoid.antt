@@ -8,7 +8,7 @@ use native.Mathlib.Omega.{arith}
 use lib.Dec.{T, T-not, not-T, eqb, eqb→eq, eqb-refl}
 use lib.ListN.{length, length-append}
 use mir.Facts.{or-yes}
-use Rattle.walks.specs.Test.{conj, any, any→some, some→any, or-left, or-right}
+use Rattle.lists.specs.Test.{conj, any, any→some, some→any, or-left, or-right}
 
 -- r stands in w as consecutive vertices.
 pub record Occurs (r w : List ℕ) : Type 0 where

@@ -1,4 +1,3 @@
-pub mod Test
 pub mod Graph
 pub mod Walk
 pub mod Avoid

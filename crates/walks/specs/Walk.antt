@@ -8,7 +8,7 @@ use native.Mathlib.Nat.{suc-mul}
 use lib.Dec.{T, ltb, ltb→lt, lt→ltb}
 use lib.ListN.{length, getD}
 use lib.Ieee.Fits.{and-i}
-use Rattle.walks.specs.Test.{conj}
+use Rattle.lists.specs.Test.{conj}
 use Rattle.walks.specs.Graph.{Graph, isArc, arcWeight}
 
 -- A walk (01: line-up): one or more vertices below the count, each neighbouring pair an arc. Vertices may repeat.

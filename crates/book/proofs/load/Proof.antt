@@ -2,21 +2,16 @@
 use borrow.Author.Needs.{needs}
 use denote.Ref.{now}
 use Prim.Native.Nat.{_-_}
-use mathlib.Core.Path.{_≡_, sym, ap, subst, _∙_}
+use mathlib.Core.Path.{sym, ap, subst, _∙_}
 use native.Mathlib.Omega.{arith}
 use lib.ListN.{length}
 use Rattle.book.specs.declared.Answer.the-variants.{Read}
 use Rattle.book.specs.declared.Counts.{Counts}
-use Rattle.book.specs.Book.{Book}
-use Rattle.book.specs.Reading.{answer, accepted, refused, reading}
+use Rattle.book.specs.Reading.{answer, reading}
 use Rattle.book.specs.Tables.{Tables}
 use Rattle.book.proofs.Loop.{Reached, nothing, started, finished, stopped, within, onward, not-both, same-book}
 use Rattle.book.proofs.load.Statement.{statement}
 use Rattle.book.proofs.load.Tie as tie
-use Rattle.book.proofs.load.Reads as reads
-use Rattle.book.proofs.load.Lts as lts
-use Rattle.book.proofs.field.field.Reads as field-reads
-use Rattle.book.proofs.field.field_end.Reads as field-end-reads
 
 abbrev Inv-loop : tie.InvT-loop
 Inv-loop bytes weights₀ flags₀ owners₀ entries₀ at₀ counts₀ weights flags owners entries at counts =

@@ -1,9 +1,9 @@
+-- `main` meets its contract: each case that is read lies in the buffer.
 use mathlib.Core.Path.{sym}
 use lib.Seq.{length-take-le}
 use Rattle.cases.specs.Next.{case-fits}
 use lib.ListN.{length}
-use mathlib.Core.Path.{_≡_}
-use Prim.Native.Nat.{_+_, _-_, _*_, _≤_, _<_}
+use Prim.Native.Nat.{_-_, _≤_}
 use borrow.Author.Needs.{needs}
 use Rattle.read_books.proofs.main.Statement.{statement}
 use Rattle.read_books.proofs.main.Tie as tie

@@ -1,6 +1,7 @@
+-- `write_arcs` is safe and ends.
 use lib.ListN.{length}
 use mathlib.Core.Path.{_≡_}
-use Prim.Native.Nat.{_+_, _-_, _*_, _≤_, _<_}
+use Prim.Native.Nat.{_-_, _≤_}
 use borrow.Author.Needs.{needs}
 use Rattle.read_books.proofs.write_arcs.Statement.{statement}
 use Rattle.read_books.proofs.write_arcs.Tie as tie

@@ -1,6 +1,5 @@
-use lib.ListN.{length}
-use mathlib.Core.Path.{_≡_}
-use Prim.Native.Nat.{_+_, _-_, _*_, _≤_, _<_}
+-- `write_paths_of` is safe and ends.
+use Prim.Native.Nat.{_-_, _≤_}
 use borrow.Author.Needs.{needs}
 use Rattle.read_books.proofs.write_paths_of.Statement.{statement}
 use Rattle.read_books.proofs.write_paths_of.Tie as tie

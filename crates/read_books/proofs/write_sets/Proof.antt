@@ -1,6 +1,7 @@
+-- `write_sets` is safe and ends.
 use lib.ListN.{length}
 use mathlib.Core.Path.{_≡_}
-use Prim.Native.Nat.{_+_, _-_, _*_, _≤_, _<_}
+use Prim.Native.Nat.{_-_, _≤_}
 use borrow.Author.Needs.{needs}
 use Rattle.read_books.proofs.write_sets.Statement.{statement}
 use Rattle.read_books.proofs.write_sets.Tie as tie

@@ -1,5 +1,4 @@
 -- `field::copy` meets its contract: after i turns the first i bytes are copied.
-use borrow.Author.Needs.{needs}
 use Prim.Native.Nat.{_+_, _-_, _≤_}
 use mathlib.Core.Path.{_≡_, ap, _∙_}
 use native.Mathlib.Omega.{arith}

@@ -11,7 +11,7 @@ use lib.Dec.{leb}
 use Rattle.book.specs.declared.Answer.{Answer}
 use Rattle.book.specs.declared.Kind.{Kind}
 use Rattle.book.specs.declared.Kind.the-variants.{VertexCount, Arc, RuleSet, Path, Unknown}
-use Rattle.book.specs.Tests.{and-true}
+use Rattle.lists.specs.Test.{and-true}
 use Rattle.book.specs.Book.{Book, counts}
 use Rattle.book.specs.BookLaws.{not-zero}
 use Rattle.book.specs.Reading.{answer, lengthAt, taken, kept, field}

@@ -1,51 +1,39 @@
+-- `field::follows` meets its contract, kind by kind.
 use borrow.Author.Tests.{eq-eqb, ne-eqb}
 use borrow.Author.Needs.{needs}
 use Rattle.book.proofs.field.follows.Statement.{statement}
 use Rattle.book.proofs.field.follows.Tie as tie
-use Rattle.book.proofs.field.follows.Reads as reads
-use Rattle.book.proofs.field.follows.Lts as lts
 
--- src/field.rt:33:30
 enum-told : tie.Need-enum-told
 enum-told c = search needs
 
--- src/field.rt:34:22
 enum-told-2 : tie.Need-enum-told-2
 enum-told-2 c = search needs
 
--- src/field.rt:35:26
 enum-told-3 : tie.Need-enum-told-3
 enum-told-3 c = search needs
 
--- src/field.rt:36:23
 enum-told-4 : tie.Need-enum-told-4
 enum-told-4 c = search needs
 
--- src/field.rt:37:26
 enum-told-5 : tie.Need-enum-told-5
 enum-told-5 c = search needs
 
--- src/field.rt:29:1
 returns : tie.Need-returns
 returns c = rw (c .enum-told .given .1)
 
--- src/field.rt:29:1
 returns-2 : tie.Need-returns-2
 returns-2 c = rw (c .before .enum-told2 .given .1, ne-eqb _ _ (c .if1 .taken))
 
--- src/field.rt:29:1
 returns-3 : tie.Need-returns-3
 returns-3 c = rw (c .before .enum-told2 .given .1, eq-eqb _ _ (c .if1 .left))
 
--- src/field.rt:29:1
 returns-4 : tie.Need-returns-4
 returns-4 c = rw (c .enum-told3 .given .1)
 
--- src/field.rt:29:1
 returns-5 : tie.Need-returns-5
 returns-5 c = rw (c .enum-told4 .given .1)
 
--- src/field.rt:29:1
 returns-6 : tie.Need-returns-6
 returns-6 c = search needs
 

@@ -1,26 +1,20 @@
+-- `field::kind_of` meets its contract, tag by tag.
 use borrow.Author.Tests.{ne-eqb}
 use Rattle.book.proofs.field.kind_of.Statement.{statement}
 use Rattle.book.proofs.field.kind_of.Tie as tie
-use Rattle.book.proofs.field.kind_of.Reads as reads
-use Rattle.book.proofs.field.kind_of.Lts as lts
 
--- src/field.rt:17:1
 returns : tie.Need-returns
 returns c = rw (c .match .keys1)
 
--- src/field.rt:17:1
 returns-2 : tie.Need-returns-2
 returns-2 c = rw (c .match .keys2)
 
--- src/field.rt:17:1
 returns-3 : tie.Need-returns-3
 returns-3 c = rw (c .match .keys3)
 
--- src/field.rt:17:1
 returns-4 : tie.Need-returns-4
 returns-4 c = rw (c .match .keys4)
 
--- src/field.rt:17:1
 returns-5 : tie.Need-returns-5
 returns-5 c = let no = c .match .rest in
     rw (ne-eqb _ 1 (no .0 .0 .0 .1), ne-eqb _ 2 (no .0 .0 .1), ne-eqb _ 3 (no .0 .1), ne-eqb _ 4 (no .1))

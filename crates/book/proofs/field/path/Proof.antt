@@ -4,7 +4,6 @@ use borrow.Author.Tests.{not-true, not-false}
 use denote.Ref.{now}
 use mathlib.Core.Bool.{Bool}
 use mathlib.Core.Path.{_≡_, sym, ap, _∙_}
-use native.Mathlib.Omega.{arith}
 use Prim.Native.Nat.{_+_}
 use lib.Seq.{slice}
 use Rattle.book.specs.Book.{simple}

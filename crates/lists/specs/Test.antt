@@ -1,5 +1,5 @@
--- Boolean tests: disjunction, implication, equality, and whether some or all of a list or of the numbers below a bound pass.
-use mathlib.Core.Bool.{Bool, true, false, _&&_, _||_, cond}
+-- Boolean tests: conjunction, disjunction, implication, equality, and whether some or all of a list or of the numbers below a bound pass.
+use mathlib.Core.Bool.{Bool, true, false, _&&_, _||_, cond, true≢false, false≢true}
 use mathlib.Core.List.{List, [], _∷_, List·Memᴰ, List·Memᴰ·head, List·Memᴰ·tail}
 use mathlib.Core.Logic.{_⊎_, inl, inr, by-cases}
 use mathlib.Core.Path.{_≡_, refl}
@@ -13,6 +13,9 @@ use mir.Facts.{or-yes}
 -- `search conj` makes a conjunction of tests, and takes one apart.
 pub ruleset conj = (and-i, and-l, and-r)
 
+pub T-and : (a b : Bool) → T (a && b) → T a × T b
+T-and a b t = (and-l a b t, and-r a b t)
+
 pub or-left : (a b : Bool) → T a → T (a || b)
 or-left true b t = tt
 or-left false b t = absurd t
@@ -20,6 +23,23 @@ or-left false b t = absurd t
 pub or-right : (a b : Bool) → T b → T (a || b)
 or-right true b t = tt
 or-right false b t = t
+
+pub and-true : (x y : Bool) → x && y ≡ true → (x ≡ true) × (y ≡ true)
+and-true true y e = (refl, e)
+and-true false y e = absurd (false≢true e)
+
+pub or-true : (x y : Bool) → x || y ≡ true → (x ≡ true) ⊎ (y ≡ true)
+or-true true y e = inl refl
+or-true false y e = inr e
+
+pub or-false : (x y : Bool) → x || y ≡ false → (x ≡ false) × (y ≡ false)
+or-false true y e = absurd (true≢false e)
+or-false false y e = (refl, e)
+
+-- a test holds or does not
+pub either : (x : Bool) → (x ≡ true) ⊎ (x ≡ false)
+either true = inl refl
+either false = inr refl
 
 abbrev pub implies : Bool → Bool → Bool
 implies a b = cond a b true

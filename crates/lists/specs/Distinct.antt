@@ -39,7 +39,7 @@ module _ {A : Type 0} where
     pub from : (a : A) → List·Memᴰ a d → List·Memᴰ a l
 
   module _ (same : Discrete A) where
-    mem? : (a : A) (l : List A) → Dec (List·Memᴰ a l)
+    pub mem? : (a : A) (l : List A) → Dec (List·Memᴰ a l)
     mem? a [] = no List·Memᴰ·not-nil
     mem? a (b ∷ l) = step (same a b) (mem? a l)
       where
