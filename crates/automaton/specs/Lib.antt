@@ -8,3 +8,4 @@ pub mod Greedy
 pub mod Short
 pub mod Certificate
 pub mod Sums
+pub mod WrongRoad

