@@ -8,7 +8,7 @@ use Rattle.walks.specs.Graph.{Graph, fromArcs}
 use Rattle.walks.specs.Walk.{weightOf, hops}
 use Rattle.walks.specs.Avoid.{Long}
 use Rattle.walks.specs.Best.{Best, None, Best·stay}
-use Rattle.walks.specs.BookA.{arc, bookA, runsA, planA}
+use Rattle.walks.specs.BookA.{arc, bookA, forbiddenA, bestA}
 use Rattle.automaton.specs.Automaton.{state, go, blocked}
 use Rattle.automaton.specs.Certificate.{Entry, certified-best, certified-none}
 
@@ -38,9 +38,9 @@ pub marks-2 : Plan bookA ((0 ∷ 2 ∷ 3 ∷ []) ∷ []) 0 3 (0 ∷ 1 ∷ 2 ∷ 
 unfolding state go blocked
 marks-2 = record { best = certified-best bookA ((0 ∷ 2 ∷ 3 ∷ []) ∷ []) 3 (at (0 ∷ []) 300 3 ∷ at (1 ∷ []) 200 2 ∷ at (2 ∷ []) 100 1 ∷ at (3 ∷ []) 0 0 ∷ at (2 ∷ 0 ∷ []) 250 3 ∷ []) 0 (1 ∷ 2 ∷ 3 ∷ []) tt; weighs = refl; takes = refl }
 
-pub marks-3 : Plan bookA runsA 0 3 planA 450 5
+pub marks-3 : Plan bookA forbiddenA 0 3 bestA 450 5
 unfolding state go blocked
-marks-3 = record { best = certified-best bookA runsA 3 (at (0 ∷ []) 450 5 ∷ at (1 ∷ []) 200 2 ∷ at (2 ∷ []) 100 1 ∷ at (3 ∷ []) 0 0 ∷ at (1 ∷ 0 ∷ []) 350 4 ∷ at (2 ∷ 1 ∷ 0 ∷ []) 250 3 ∷ at (2 ∷ 0 ∷ []) 250 3 ∷ []) 0 (1 ∷ 2 ∷ 1 ∷ 2 ∷ 3 ∷ []) tt; weighs = refl; takes = refl }
+marks-3 = record { best = certified-best bookA forbiddenA 3 (at (0 ∷ []) 450 5 ∷ at (1 ∷ []) 200 2 ∷ at (2 ∷ []) 100 1 ∷ at (3 ∷ []) 0 0 ∷ at (1 ∷ 0 ∷ []) 350 4 ∷ at (2 ∷ 1 ∷ 0 ∷ []) 250 3 ∷ at (2 ∷ 0 ∷ []) 250 3 ∷ []) 0 (1 ∷ 2 ∷ 1 ∷ 2 ∷ 3 ∷ []) tt; weighs = refl; takes = refl }
 
 -- From marks 3, named 1 2 3; then named 1 3.
 pub named-123 : Plan bookA ((0 ∷ 1 ∷ 2 ∷ 3 ∷ []) ∷ (0 ∷ 2 ∷ 3 ∷ []) ∷ (1 ∷ 2 ∷ 3 ∷ []) ∷ []) 0 3 (0 ∷ 1 ∷ 3 ∷ []) 500 2
@@ -75,10 +75,10 @@ unfolding state go blocked
 fewer-hops = record { best = certified-best shortcut [] 3 (at (0 ∷ []) 200 1 ∷ at (1 ∷ []) 100 1 ∷ at (2 ∷ []) 100 1 ∷ at (3 ∷ []) 0 0 ∷ []) 0 (3 ∷ []) tt; weighs = refl; takes = refl }
 
 -- The best ways to 1 and to 2.
-pub best-to-1 : Plan bookA runsA 0 1 (0 ∷ 1 ∷ []) 100 1
+pub best-to-1 : Plan bookA forbiddenA 0 1 (0 ∷ 1 ∷ []) 100 1
 unfolding state go blocked
-best-to-1 = record { best = certified-best bookA runsA 1 (at (0 ∷ []) 100 1 ∷ at (1 ∷ []) 0 0 ∷ at (2 ∷ []) 50 1 ∷ off (3 ∷ []) ∷ at (1 ∷ 0 ∷ []) 0 0 ∷ at (2 ∷ 1 ∷ 0 ∷ []) 50 1 ∷ at (2 ∷ 0 ∷ []) 50 1 ∷ []) 0 (1 ∷ []) tt; weighs = refl; takes = refl }
+best-to-1 = record { best = certified-best bookA forbiddenA 1 (at (0 ∷ []) 100 1 ∷ at (1 ∷ []) 0 0 ∷ at (2 ∷ []) 50 1 ∷ off (3 ∷ []) ∷ at (1 ∷ 0 ∷ []) 0 0 ∷ at (2 ∷ 1 ∷ 0 ∷ []) 50 1 ∷ at (2 ∷ 0 ∷ []) 50 1 ∷ []) 0 (1 ∷ []) tt; weighs = refl; takes = refl }
 
-pub best-to-2 : Plan bookA runsA 0 2 (0 ∷ 1 ∷ 2 ∷ []) 200 2
+pub best-to-2 : Plan bookA forbiddenA 0 2 (0 ∷ 1 ∷ 2 ∷ []) 200 2
 unfolding state go blocked
-best-to-2 = record { best = certified-best bookA runsA 2 (at (0 ∷ []) 200 2 ∷ at (1 ∷ []) 100 1 ∷ at (2 ∷ []) 0 0 ∷ off (3 ∷ []) ∷ at (1 ∷ 0 ∷ []) 100 1 ∷ at (2 ∷ 1 ∷ 0 ∷ []) 0 0 ∷ at (2 ∷ 0 ∷ []) 0 0 ∷ []) 0 (1 ∷ 2 ∷ []) tt; weighs = refl; takes = refl }
+best-to-2 = record { best = certified-best bookA forbiddenA 2 (at (0 ∷ []) 200 2 ∷ at (1 ∷ []) 100 1 ∷ at (2 ∷ []) 0 0 ∷ off (3 ∷ []) ∷ at (1 ∷ 0 ∷ []) 100 1 ∷ at (2 ∷ 1 ∷ 0 ∷ []) 0 0 ∷ at (2 ∷ 0 ∷ []) 0 0 ∷ []) 0 (1 ∷ 2 ∷ []) tt; weighs = refl; takes = refl }

@@ -15,7 +15,7 @@ use Rattle.walks.specs.Graph.{isSome, isArc}
 use Rattle.walks.specs.Walk.{weightOf, hops, hops-length}
 use Rattle.walks.specs.Avoid.{avoids, Avoids→avoids}
 use Rattle.walks.specs.Best.{Feasible, Best, Best·unique}
-use Rattle.walks.specs.BookA.{bookA, runsA}
+use Rattle.walks.specs.BookA.{bookA, forbiddenA}
 use Rattle.automaton.specs.Sums.{best-to-1, best-to-2}
 
 -- arcs to 3 come from 1 and 2 alone
@@ -33,7 +33,7 @@ into-3 u t = go (eqb 0 u) (eqb 1 u) (eqb 2 u) refl refl t
     go true false false e f t = absurd t
     go false false false e f t = absurd t
 
-last-arc : (u : ℕ) (p : List ℕ) → Feasible bookA runsA 0 u p → Feasible bookA runsA 0 3 (p ++ (3 ∷ [])) → T (isArc bookA u 3)
+last-arc : (u : ℕ) (p : List ℕ) → Feasible bookA forbiddenA 0 u p → Feasible bookA forbiddenA 0 3 (p ++ (3 ∷ [])) → T (isArc bookA u 3)
 last-arc u p f whole =
     let size = hops-length p (f .walk) in
     let more = length-append p (3 ∷ []) in
@@ -41,15 +41,15 @@ last-arc u p f whole =
     let next : getD (p ++ (3 ∷ [])) (suc (hops p)) 0 ≡ 3 = ap (λ i. getD (p ++ (3 ∷ [])) i 0) size ∙ getD-append-seam p 3 [] 0 in
     rw (here, next) at (whole .walk .arcs (hops p) (omega arith))
 
-pub one-way-per-vertex : (u : ℕ) (p : List ℕ) → Best bookA runsA 0 u p → Feasible bookA runsA 0 3 (p ++ (3 ∷ [])) → 500 ≤ weightOf bookA (p ++ (3 ∷ []))
+pub one-way-per-vertex : (u : ℕ) (p : List ℕ) → Best bookA forbiddenA 0 u p → Feasible bookA forbiddenA 0 3 (p ++ (3 ∷ [])) → 500 ≤ weightOf bookA (p ++ (3 ∷ []))
 one-way-per-vertex u p best whole = ⊎-elim by-1 by-2 (into-3 u (last-arc u p (best .feasible) whole))
   where
     by-1 : u ≡ 1 → 500 ≤ weightOf bookA (p ++ (3 ∷ []))
     by-1 e =
-        let is : p ≡ 0 ∷ 1 ∷ [] = Best·unique (subst (λ v. Best bookA runsA 0 v p) e best) (best-to-1 .best) in
+        let is : p ≡ 0 ∷ 1 ∷ [] = Best·unique (subst (λ v. Best bookA forbiddenA 0 v p) e best) (best-to-1 .best) in
         subst (λ q. 500 ≤ weightOf bookA (q ++ (3 ∷ []))) (sym is) (lit≤ tt)
 
     by-2 : u ≡ 2 → 500 ≤ weightOf bookA (p ++ (3 ∷ []))
     by-2 e =
-        let is : p ≡ 0 ∷ 1 ∷ 2 ∷ [] = Best·unique (subst (λ v. Best bookA runsA 0 v p) e best) (best-to-2 .best) in
-        absurd (subst (λ q. T (avoids runsA (q ++ (3 ∷ [])))) is (Avoids→avoids runsA (p ++ (3 ∷ [])) (whole .clear)))
+        let is : p ≡ 0 ∷ 1 ∷ 2 ∷ [] = Best·unique (subst (λ v. Best bookA forbiddenA 0 v p) e best) (best-to-2 .best) in
+        absurd (subst (λ q. T (avoids forbiddenA (q ++ (3 ∷ [])))) is (Avoids→avoids forbiddenA (p ++ (3 ∷ [])) (whole .clear)))
