@@ -8,4 +8,10 @@ pub mod Greedy
 pub mod Short
 pub mod Certificate
 pub mod Sums
+pub mod Area
+pub mod Built
+pub mod Words
+pub mod BuiltLaws
+pub mod Progress
+pub mod Rows
 pub mod WrongRoad
