@@ -195,7 +195,8 @@ fn named(bytes: &[u8], from: usize, to: usize, v: u8) -> bool
     false
 }
 
-fn simple(bytes: &[u8], from: usize, to: usize, vertices: usize) -> bool
+// Whether the bytes from `from` up to `to` are a simple path of vertices below the count.
+pub fn simple(bytes: &[u8], from: usize, to: usize, vertices: usize) -> bool
     requires { ⌜ to ≤ length (now bytes) ⌝ }
     ensures { λ r. ⌜ r ≡ Book·simple vertices (slice from to (now (bytes .entry))) ⌝ }
 {

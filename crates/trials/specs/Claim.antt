@@ -1,0 +1,142 @@
+-- The claim about the list (01, 'Trials'): after every list of reports the record and every byte of both areas are those that the three
+-- rules give, and failed and passed count the accepted reports of their kind.
+use Prim.Native.Nat.{ℕ, _+_, _*_, _≤_}
+use mathlib.Core.Path.{_≡_, refl, sym, ap, _∙_}
+use mathlib.Core.Bool.{Bool, true, false, cond, _&&_}
+use mathlib.Core.List.{List, [], _∷_, _++_, List·Memᴰ, List·Memᴰ·head, List·Memᴰ·tail}
+use mathlib.Core.Logic.{_≢_, _↔_, by-cases}
+use mathlib.Core.Option.{Option, none, some}
+use native.Mathlib.Omega.{arith}
+use native.Mathlib.Decide.{ℕ-discrete}
+use borrow.Author.Tests.{eqb-true}
+use lib.Dec.{T, eqb}
+use lib.ListN.{length, drop, length-append, length-drop, length-replicate}
+use Rattle.walks.specs.Graph.{Graph}
+use Rattle.walks.specs.Avoid.{occurs, occurs→Occurs}
+use Rattle.walks.specs.Best.{Best, None, Best·not-None}
+use Rattle.book.specs.declared.Refusal.{Refusal}
+use Rattle.book.specs.declared.Refusal.the-variants.{NotStanding, Full}
+use Rattle.book.specs.Refusal.{firstFailure}
+use Rattle.book.specs.Tables.{padded, entries}
+use Rattle.trials.specs.Trials.{Report, passed, failed, State, pathArea, standing, trials, takes, hasRoom, passedIn, Valid, Plan, refusal, overlaid, step, unless, run, accepted, named, failures, passes, replanned, pathBytes, Begin, begun, stateAfter, acceptedOf}
+use Rattle.trials.specs.Tests.{takes→IsPath}
+use Rattle.trials.specs.Accepted.{begin-accepted, oracleTests, only-oracle}
+use Rattle.trials.specs.Invariant.{Invariant, invariant-begin, invariant-step, kept, anything}
+
+module _ (b : Begin) where
+  open Begin b using (graph as g, plan, bound as F₀, start as s, end as t, paths, area)
+
+  -- What holds of the state σ that the begin and then the accepted reports `done` led to.
+  pub record Claim (done : List Report) (σ : State) : Type 0 where
+    -- the record: failed and passed count the accepted reports of their kind, and trials all of them
+    pub start : σ .rec .start ≡ s
+    pub end : σ .rec .end ≡ t
+    pub first : σ .rec .first ≡ length F₀
+    pub known : σ .rec .known ≡ length F₀ + failures done
+    pub failed-count : σ .rec .failed ≡ failures done
+    pub passed-count : σ .rec .passed ≡ passes done
+    pub trials-count : trials σ ≡ length done
+    -- the known paths: the binding ones, then those named, in order
+    pub forbidden : σ .forbidden ≡ F₀ ++ named done
+    -- every byte of both areas
+    pub path-bytes : pathArea σ ≡ padded pathBytes (entries (F₀ ++ named done)) ++ drop pathBytes paths
+    pub path-length : length (pathArea σ) ≡ length paths
+    pub area-bytes : σ .area ≡ replanned plan s t F₀ (named done) (overlaid (plan F₀ s t) area)
+    pub area-length : length (σ .area) ≡ length area
+    -- 9 never holds: among others the known paths are all different, and length and litres are those of the standing walk, or 0 in stage 2
+    pub valid : Valid g σ
+    -- in stages 0 and 1 the best walk stands; in stage 2, and just there, there is none; stage 1 comes with the accepted passed report
+    pub best : σ .rec .stage ≢ 2 → Best g (σ .forbidden) s t (standing σ)
+    pub nothing : (σ .rec .stage ≡ 2) ↔ None g (σ .forbidden) s t
+    pub passed-stage : (σ .rec .stage ≡ 1) ↔ (passes done ≡ 1)
+    -- a report is refused only for what its oracle does: 11, 12, 13
+    pub refusals : (ρ : Report) → refusal g σ ρ ≡ firstFailure (oracleTests g σ ρ)
+
+-- ---- proof
+-- The entries of a forbidden set take 9 bytes each.
+length-entries : (F : List (List ℕ)) → ((r : List ℕ) → List·Memᴰ r F → length r ≤ 8) → length (entries F) ≡ length F * 9
+unfolding entries
+length-entries [] h = refl
+length-entries (r ∷ F) h =
+    simp (length-append, length-replicate, length-entries F (λ q m. h q (List·Memᴰ·tail m))) (omega (arith, h r (List·Memᴰ·head refl)))
+
+count-all : (ρs : List Report) → failures ρs + passes ρs ≡ length ρs
+unfolding named passes
+count-all [] = refl
+count-all (passed ∷ ρs) = omega (arith, count-all ρs)
+count-all (failed r ∷ ρs) = omega (arith, count-all ρs)
+
+one-just-in-stage-1 : (n : ℕ) → passedIn n ≡ 1 → n ≡ 1
+one-just-in-stage-1 n e = go (eqb n 1) refl e
+  where
+    go : (b : Bool) → eqb n 1 ≡ b → _≡_ {A = ℕ} (cond b 1 0) 1 → n ≡ 1
+    go true p q = eqb-true n 1 p
+    go false p q = absurd (omega arith)
+
+pub claimed : (b : Begin) (done : List Report) (σ : State) → Invariant b done σ → Claim b done σ
+claimed b done σ c =
+    let v = c .valid in
+    let g = b .graph in
+    let a = begin-accepted b in
+    let bytes = length-entries (σ .forbidden) (λ r m. takes→IsPath (g .count) r (v .set .taken r m) .eight) in
+    record {
+      start = c .start;
+      end = c .end;
+      first = c .first;
+      known = omega (arith, v .sum, c .first, c .failed-count);
+      failed-count = c .failed-count;
+      passed-count = c .passed-count;
+      trials-count = omega (arith, c .failed-count, c .passed-count, count-all done);
+      forbidden = c .forbidden;
+      path-bytes = rw (c .forbidden, c .beyond) refl;
+      path-length =
+          simp (length-append, length-replicate, c .beyond, length-drop) (omega (arith, bytes, v .set .few, a .paths-fit));
+      area-bytes = c .area-bytes;
+      area-length = c .area-length;
+      valid = v;
+      best = c .best;
+      nothing = (
+        c .nothing,
+        λ n. by-cases (ℕ-discrete (σ .rec .stage) 2) (λ e. e) (λ (ne : ¬ (σ .rec .stage ≡ 2)). absurd (Best·not-None (c .best ne) n)),
+      );
+      passed-stage =
+          (λ e. sym (c .passed-count) ∙ v .passed ∙ rw e refl, λ e. one-just-in-stage-1 (σ .rec .stage) (sym (v .passed) ∙ c .passed-count ∙ e));
+      refusals = only-oracle g σ (omega (arith, c .area-length, a .area-fits)) v;
+    }
+
+-- The claim about the list: for every accepted begin and every list of reports after it, refused ones included.
+pub claim : (b : Begin) (ρs : List Report) → Claim b (acceptedOf b ρs) (stateAfter b ρs)
+claim b ρs =
+    claimed b (acceptedOf b ρs) (stateAfter b ρs)
+    (kept (b .graph) (b .plan) (Invariant b) (λ σ ρ. Unit) (λ done σ ρ c e u. invariant-step b done σ ρ c e) ρs [] (begun b)
+    (anything (b .graph) (b .plan) (begun b) ρs) (invariant-begin b))
+
+module _ (g : Graph) (plan : Plan) where
+  -- A refused report is as if not made: the accepted reports alone lead to the same state.
+  pub refused-as-if-not-made : (σ : State) (ρs : List Report) → run g plan σ (accepted g plan σ ρs) ≡ run g plan σ ρs
+  unfolding run accepted
+  refused-as-if-not-made σ [] = refl
+  refused-as-if-not-made σ (ρ ∷ ρs) = go (refusal g σ ρ) refl (λ σ′. refused-as-if-not-made σ′ ρs)
+    where
+      go : (o : Option Refusal) → refusal g σ ρ ≡ o → ((σ′ : State) → run g plan σ′ (accepted g plan σ′ ρs) ≡ run g plan σ′ ρs)
+          → run g plan σ (unless o (ρ ∷ accepted g plan (unless o (step g plan σ ρ) σ) ρs) (accepted g plan (unless o (step g plan σ ρ) σ) ρs))
+          ≡ run g plan (unless o (step g plan σ ρ) σ) ρs
+      go none e rec =
+          ap (λ (o : Option Refusal). run g plan (unless o (step g plan σ ρ) σ) (accepted g plan (step g plan σ ρ) ρs)) e
+          ∙ rec (step g plan σ ρ)
+      go (some x) e rec = rec σ
+
+-- A path that is known already does not stand in the walk: naming it is refused under 12.
+pub known-refused : (b : Begin) (done : List Report) (σ : State) → Claim b done σ → σ .rec .stage ≡ 0 → (r : List ℕ) → List·Memᴰ r (σ .forbidden)
+    → refusal (b .graph) σ (failed r) ≡ some NotStanding
+known-refused b done σ c e r m = c .refusals (failed r) ∙ rw e (go (takes (b .graph .count) r) (occurs r (standing σ)) absent)
+  where
+    absent : T (occurs r (standing σ)) → ⊥
+    absent t = c .valid .walk (λ f. omega arith) .clear r m (occurs→Occurs r (standing σ) t)
+
+    go : (x y : Bool) → (T y → ⊥)
+        → firstFailure (record { holds = x && y; refusal = NotStanding } ∷ record { holds = hasRoom σ (failed r); refusal = Full } ∷ []) ≡ some NotStanding
+    go true true n = absurd (n tt)
+    go true false n = refl
+    go false true n = refl
+    go false false n = refl

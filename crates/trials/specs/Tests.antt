@@ -1,0 +1,183 @@
+-- The tests of the trials decide what they test.
+use Prim.Native.Nat.{ℕ, _+_, _≤_, _<_}
+use mathlib.Core.Path.{_≡_, refl}
+use mathlib.Core.Bool.{Bool, true, false, not, cond, _&&_}
+use mathlib.Core.List.{List, [], _∷_, List·Memᴰ, List·Memᴰ·head, List·Memᴰ·tail, Memᴰ·cast}
+use mathlib.Core.Logic.{_≢_}
+use lib.Dec.{T, eqb, ltb, T-not, not-T, leb→le, le→leb, ltb→lt, lt→ltb, eqb→eq, eqb-refl}
+use lib.ListN.{length, getD}
+use borrow.Author.Tests.{eqb-true, eqb-false}
+use lib.Ieee.Fits.{and-i, and-l, and-r}
+use Rattle.lists.specs.Distinct.{Distinct}
+use Rattle.lists.specs.Test.{conj, all, all→each, any, any→some, some→any}
+use Rattle.walks.specs.Graph.{Graph}
+use Rattle.walks.specs.Walk.{isWalk→Walk, Walk→isWalk, weightOf, hops}
+use Rattle.walks.specs.Avoid.{same, same→≡, same-refl, avoids→Avoids, Avoids→avoids}
+use Rattle.walks.specs.Best.{Feasible}
+use Rattle.book.specs.Book.{All, IsPath, VerticesOnce, simple, names}
+use Rattle.book.specs.BookLaws.{simple-below, simple-once}
+use Rattle.trials.specs.Trials.{State, standing, passedIn, takes, ForbiddenSet, Valid, isDistinct, isForbiddenSet, isFeasible, isValid, longest, mostPaths}
+
+pub T→true : (b : Bool) → T b → b ≡ true
+T→true true t = refl
+T→true false t = absurd t
+
+pub true→T : (b : Bool) → b ≡ true → T b
+true→T b e = rw e tt
+
+eq→eqb : (m n : ℕ) → m ≡ n → T (eqb m n)
+eq→eqb m n e = rw e (eqb-refl n)
+
+each→all : {A : Type 0} (p : A → Bool) (l : List A) → ((a : A) → List·Memᴰ a l → T (p a)) → T (all p l)
+each→all p [] h = tt
+each→all p (a ∷ l) h = and-i (p a) (all p l) (h a (List·Memᴰ·head refl)) (each→all p l (λ b m. h b (List·Memᴰ·tail m)))
+
+-- The book's rules for runs take what the book calls a path.
+pub takes→IsPath : (count : ℕ) (r : List ℕ) → T (takes count r) → IsPath count r
+unfolding takes
+takes→IsPath count r t =
+    let simple-is = T→true (simple count r) (search conj) in
+    record {
+      two = leb→le 2 (length r) (search conj);
+      eight = leb→le (length r) 8 (search conj);
+      below = simple-below count r simple-is;
+      once = simple-once count r simple-is;
+    }
+
+pub IsPath→takes : (count : ℕ) (r : List ℕ) → IsPath count r → T (takes count r)
+unfolding takes simple
+IsPath→takes count r p = search (conj, le→leb 2 (length r) (p .two), le→leb (length r) 8 (p .eight), is-simple r (p .below) (p .once))
+  where
+    is-simple : (vs : List ℕ) → All (λ v. v < count) vs → VerticesOnce vs → T (simple count vs)
+    is-simple [] b o = tt
+    is-simple (v ∷ vs) b o =
+        and-i (ltb v count && not (names vs v)) (simple count vs)
+        (and-i (ltb v count) (not (names vs v)) (lt→ltb v count (b .0)) (true→T (not (names vs v)) (rw (o .0) refl)))
+        (is-simple vs (b .1) (o .1))
+
+-- r is in F exactly if a path of F is the same.
+pub same→mem : (r : List ℕ) (F : List (List ℕ)) → T (any (same r) F) → List·Memᴰ r F
+same→mem r F t =
+    let h = any→some (same r) F t in
+    Memᴰ·cast (same→≡ r (h .0) (h .2)) (h .1)
+
+pub mem→same : (r : List ℕ) (F : List (List ℕ)) → List·Memᴰ r F → T (any (same r) F)
+mem→same r F m = some→any (same r) m (same-refl r)
+
+pub isDistinct→Distinct : (F : List (List ℕ)) → T (isDistinct F) → Distinct F
+unfolding isDistinct
+isDistinct→Distinct [] t = tt
+isDistinct→Distinct (r ∷ F) t = (
+  λ m. T-not (any (same r) F) (and-l (not (any (same r) F)) (isDistinct F) t) (mem→same r F m),
+  isDistinct→Distinct F (and-r (not (any (same r) F)) (isDistinct F) t),
+)
+
+pub Distinct→isDistinct : (F : List (List ℕ)) → Distinct F → T (isDistinct F)
+unfolding isDistinct
+Distinct→isDistinct [] d = tt
+Distinct→isDistinct (r ∷ F) d =
+    and-i (not (any (same r) F)) (isDistinct F) (not-T (any (same r) F) (λ t. d .0 (same→mem r F t))) (Distinct→isDistinct F (d .1))
+
+-- What binding gives is a forbidden set: at most 256 different paths of the book.
+pub forbidden-set : (count : ℕ) (F : List (List ℕ)) → length F ≤ mostPaths → Distinct F → All (IsPath count) F → ForbiddenSet count F
+forbidden-set count F few distinct are-paths = record { few = few; distinct = distinct; taken = λ r m. IsPath→takes count r (each are-paths m) }
+  where
+    each : {G : List (List ℕ)} {r : List ℕ} → All (IsPath count) G → List·Memᴰ r G → IsPath count r
+    each h (List·Memᴰ·head e) = rw e (h .0)
+    each h (List·Memᴰ·tail m) = each (h .1) m
+
+module _ (count : ℕ) (F : List (List ℕ)) where
+  pub isForbiddenSet→ : T (isForbiddenSet count F) → ForbiddenSet count F
+  unfolding isForbiddenSet
+  isForbiddenSet→ t =
+      record {
+        few = leb→le (length F) mostPaths (search conj);
+        distinct = isDistinct→Distinct F (search conj);
+        taken = λ r m. all→each (takes count) (search conj) m;
+      }
+
+  pub →isForbiddenSet : ForbiddenSet count F → T (isForbiddenSet count F)
+  unfolding isForbiddenSet
+  →isForbiddenSet h =
+      search (conj, le→leb (length F) mostPaths (h .few), Distinct→isDistinct F (h .distinct), each→all (takes count) F (h .taken))
+
+module _ (g : Graph) (F : List (List ℕ)) (s t : ℕ) (w : List ℕ) where
+  pub isFeasible→Feasible : T (isFeasible g F s t w) → Feasible g F s t w
+  unfolding isFeasible
+  isFeasible→Feasible h =
+      record {
+        walk = isWalk→Walk w (search conj);
+        starts = eqb→eq (getD w 0 0) s (search conj);
+        ends = eqb→eq (getD w (hops w) 0) t (search conj);
+        clear = avoids→Avoids F w (search conj);
+      }
+
+  pub Feasible→isFeasible : Feasible g F s t w → T (isFeasible g F s t w)
+  unfolding isFeasible
+  Feasible→isFeasible f =
+      search (conj, Walk→isWalk w (f .walk), eq→eqb (getD w 0 0) s (f .starts), eq→eqb (getD w (hops w) 0) t (f .ends), Avoids→avoids F w (f .clear))
+
+module _ (g : Graph) (σ : State) where
+  -- the last of isValid's tests
+  lastTest : Bool → Bool
+  lastTest over =
+      cond over
+      (eqb (σ .rec .length) 0 && eqb (σ .rec .litres) 0)
+      (isFeasible g (σ .forbidden) (σ .rec .start) (σ .rec .end) (standing σ) && eqb (σ .rec .litres) (weightOf g (standing σ)))
+
+  pub isValid→Valid : T (isValid g σ) → Valid g σ
+  unfolding isValid lastTest
+  isValid→Valid t =
+      let (walk, litres, no-walk) = last (eqb (σ .rec .stage) 2) refl (search conj) in
+      record {
+        set = isForbiddenSet→ (g .count) (σ .forbidden) (search conj depth 12);
+        known = eqb→eq (σ .rec .known) (length (σ .forbidden)) (search conj depth 12);
+        stage = leb→le (σ .rec .stage) 2 (search conj depth 12);
+        start = ltb→lt (σ .rec .start) (g .count) (search conj depth 12);
+        end = ltb→lt (σ .rec .end) (g .count) (search conj depth 12);
+        sum = eqb→eq (σ .rec .known) (σ .rec .first + σ .rec .failed) (search conj depth 12);
+        passed = eqb→eq (σ .rec .passed) (passedIn (σ .rec .stage)) (search conj depth 12);
+        short = leb→le (σ .rec .length) longest (search conj depth 12);
+        walk = walk;
+        litres = litres;
+        no-walk = no-walk;
+      }
+    where
+      last : (over : Bool) → eqb (σ .rec .stage) 2 ≡ over → T (lastTest over)
+          → (σ .rec .stage ≢ 2 → Feasible g (σ .forbidden) (σ .rec .start) (σ .rec .end) (standing σ))
+          × (σ .rec .stage ≢ 2 → σ .rec .litres ≡ weightOf g (standing σ))
+          × (σ .rec .stage ≡ 2 → (σ .rec .length ≡ 0) × (σ .rec .litres ≡ 0))
+      last true e h = (
+        λ ne. absurd (ne (eqb-true _ _ e)),
+        λ ne. absurd (ne (eqb-true _ _ e)),
+        λ is. (eqb→eq _ _ (and-l (eqb (σ .rec .length) 0) (eqb (σ .rec .litres) 0) h), eqb→eq _ _ (and-r (eqb (σ .rec .length) 0) (eqb (σ .rec .litres) 0) h)),
+      )
+      last false e h = (
+        λ ne. isFeasible→Feasible g (σ .forbidden) (σ .rec .start) (σ .rec .end) (standing σ) (search conj),
+        λ ne. eqb→eq (σ .rec .litres) (weightOf g (standing σ)) (search conj),
+        λ is. absurd (eqb-false _ _ e is),
+      )
+
+  pub Valid→isValid : Valid g σ → T (isValid g σ)
+  unfolding isValid lastTest
+  Valid→isValid v =
+      search (
+        conj,
+        →isForbiddenSet (g .count) (σ .forbidden) (v .set),
+        eq→eqb (σ .rec .known) (length (σ .forbidden)) (v .known),
+        le→leb (σ .rec .stage) 2 (v .stage),
+        lt→ltb (σ .rec .start) (g .count) (v .start),
+        lt→ltb (σ .rec .end) (g .count) (v .end),
+        eq→eqb (σ .rec .known) (σ .rec .first + σ .rec .failed) (v .sum),
+        eq→eqb (σ .rec .passed) (passedIn (σ .rec .stage)) (v .passed),
+        le→leb (σ .rec .length) longest (v .short),
+        last (eqb (σ .rec .stage) 2) refl,
+      ) depth 12
+    where
+      last : (over : Bool) → eqb (σ .rec .stage) 2 ≡ over → T (lastTest over)
+      last true e =
+          let z = v .no-walk (eqb-true _ _ e) in
+          search (conj, eq→eqb _ _ (z .0), eq→eqb _ _ (z .1))
+      last false e =
+          let ne : σ .rec .stage ≢ 2 = eqb-false _ _ e in
+          search (conj, Feasible→isFeasible g (σ .forbidden) (σ .rec .start) (σ .rec .end) (standing σ) (v .walk ne), eq→eqb (σ .rec .litres) (weightOf g (standing σ)) (v .litres ne))
