@@ -1,0 +1,50 @@
+// The check of a line-up as the test programs have it: the marks and the line-up's length in two bytes each (high byte first),
+// the line-up, and the book.
+use book::Refusal;
+use cases::number;
+use cases::text;
+use cases::wide;
+use rules::AREA;
+use rules::Bound;
+use rules::Checked;
+
+// Binds, checks and prints the answer for one case.
+pub fn check_case(input: &[u8]) {
+    let size = input.len();
+    if size < 4 {
+        cases::refusal(Refusal::Truncated(0));
+        return;
+    }
+    let flags = word(input[0], input[1]);
+    let length = wide(input[2]) * 256 + wide(input[3]);
+    if size - 4 < length {
+        cases::refusal(Refusal::Truncated(0));
+        return;
+    }
+    let end = 4 + length;
+    let walk = &input[4..end];
+    let bytes = &input[end..];
+    let mut area = [0u8; AREA];
+    match rules::bind(bytes, flags, &mut area) {
+        Bound::Known(count) => print(rules::check(bytes, &area, count, walk)),
+        Bound::Refused(r) => cases::refusal(r),
+    }
+}
+
+fn word(high: u8, low: u8) -> u16 {
+    (high as u16) * 256 + (low as u16)
+}
+
+fn print(answer: Checked) {
+    match answer {
+        Checked::Clear => text(b"CLEAR\n"),
+        Checked::Occurs(place, length) => {
+            text(b"RUN AT");
+            number(place);
+            text(b" LENGTH");
+            number(length);
+            text(b"\n");
+        }
+        Checked::Refused(r) => cases::refusal(r),
+    }
+}

@@ -1,0 +1,11 @@
+pub mod Parts
+pub mod Flags
+pub mod Entries
+pub mod Entered
+pub mod Validity
+pub mod Gathered
+pub mod Loaded
+pub mod Binds
+pub mod Walks
+pub mod Searched
+pub mod Checks

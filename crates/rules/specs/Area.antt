@@ -1,0 +1,44 @@
+-- The runs area (01): 256 entries of nine bytes, a length and eight vertices each, unused bytes 0. Bytes after them are not judged.
+use Prim.Native.Nat.{ℕ, zero, suc}
+use mathlib.Core.Bool.{Bool, _&&_}
+use mathlib.Core.List.{List, [], _∷_, map}
+use lib.Dec.{leb}
+use lib.ListN.{getD, take, drop}
+use Rattle.lists.specs.Test.{all}
+use Rattle.walks.specs.Avoid.{same}
+use Rattle.book.specs.Book.{simple}
+use Rattle.book.specs.Tables.{padded, entries}
+use Rattle.rules.specs.Binding.{once}
+
+-- How many paths an area holds, and its bytes.
+abbrev pub mostPaths : ℕ
+mostPaths = 256
+
+abbrev pub areaSize : ℕ
+areaSize = 2304
+
+-- The bytes that hold the paths of F.
+abbrev pub written : List (List ℕ) → List ℕ
+written F = padded areaSize (entries F)
+
+-- The first n entries of an area.
+unfoldable pub blocks : ℕ → List ℕ → List (List ℕ)
+blocks zero t = []
+blocks (suc n) t = take 9 t ∷ blocks n (drop 9 t)
+
+-- The path that an entry spells: as many of its vertices as its length says.
+abbrev pub pathOf : List ℕ → List ℕ
+pathOf e = take (getD e 0 0) (drop 1 e)
+
+-- The forbidden set that an area and a count of paths spell.
+abbrev pub spelled : ℕ → List ℕ → List (List ℕ)
+spelled count area = map pathOf (blocks count area)
+
+-- An entry that the book's rules for paths take: 2 to 8 vertices below the count, none named twice.
+abbrev pub isEntry : ℕ → List ℕ → Bool
+isEntry vertices e = leb 2 (getD e 0 0) && leb (getD e 0 0) 8 && simple vertices (pathOf e)
+
+-- 9: at most 256 paths, each by the book's rules, none repeated, and every unused byte 0.
+abbrev pub valid : ℕ → List ℕ → ℕ → Bool
+valid vertices area count =
+    leb count mostPaths && all (isEntry vertices) (blocks count area) && once (spelled count area) && same (take areaSize area) (written (spelled count area))

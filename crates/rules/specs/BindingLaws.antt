@@ -1,0 +1,61 @@
+-- Laws of the forbidden paths that are known: how many, of what kind, and which.
+use Prim.Native.Nat.{ℕ, _≤_}
+use mathlib.Core.Bool.{Bool, true, false, cond}
+use mathlib.Core.List.{List, [], _∷_, _++_}
+use mathlib.Core.Path.{_≡_, refl}
+use native.Mathlib.Omega.{arith}
+use lib.ListN.{length, length-append}
+use Rattle.book.specs.Book.{RuleSet, Book, All, IsPath, WellFormed, allPaths}
+use Rattle.book.specs.BookLaws.{all-map}
+use Rattle.rules.specs.Binding.{applies, bound, known, once}
+use Rattle.rules.specs.AreaLaws.{Short}
+use Rattle.rules.specs.Sets.{distinct-once, distinct-length, distinct-all}
+
+module _ (P : List ℕ → Type 0) where
+  all-left : (F G : List (List ℕ)) → All P (F ++ G) → All P F
+  all-left [] G h = tt
+  all-left (p ∷ F) G h = (h .0, all-left F G (h .1))
+
+  all-right : (F G : List (List ℕ)) → All P (F ++ G) → All P G
+  all-right [] G h = h
+  all-right (p ∷ F) G h = all-right F G (h .1)
+
+  all-append : (F G : List (List ℕ)) → All P F → All P G → All P (F ++ G)
+  all-append [] G h k = k
+  all-append (p ∷ F) G h k = (h .0, all-append F G (h .1) k)
+
+  pub bound-all : (flags : ℕ) (ss : List RuleSet) → All P (allPaths ss) → All P (bound flags ss)
+  unfolding allPaths bound
+  bound-all flags [] h = tt
+  bound-all flags (s ∷ ss) h = all-append (cond (applies flags s) (s .paths) []) (bound flags ss) (own (applies flags s)) (bound-all flags ss (all-right (s .paths) (allPaths ss) h))
+    where
+      own : (x : Bool) → All P (cond x (s .paths) [])
+      own true = all-left (s .paths) (allPaths ss) h
+      own false = tt
+
+  pub known-all : (flags : ℕ) (ss : List RuleSet) → All P (allPaths ss) → All P (known flags ss)
+  known-all flags ss h = distinct-all P (bound flags ss) [] tt (bound-all flags ss h)
+
+bound-length : (flags : ℕ) (ss : List RuleSet) → length (bound flags ss) ≤ length (allPaths ss)
+unfolding allPaths bound
+bound-length flags [] = omega arith
+bound-length flags (s ∷ ss) = simp length-append (omega (arith, own (applies flags s), bound-length flags ss))
+  where
+    own : (x : Bool) → length (cond x (s .paths) []) ≤ length (s .paths)
+    own true = omega arith
+    own false = omega arith
+
+-- The known paths of a book are at most 256 different paths by its rules.
+module _ (flags : ℕ) (b : Book) (w : WellFormed b) where
+  pub known-few : length (known flags (b .sets)) ≤ 256
+  known-few = omega (arith, distinct-length (bound flags (b .sets)) [], bound-length flags (b .sets), w .few-paths)
+
+  pub known-paths : All (IsPath (b .count)) (known flags (b .sets))
+  known-paths = known-all (IsPath (b .count)) flags (b .sets) (w .paths-proper)
+
+  pub known-short : All Short (known flags (b .sets))
+  known-short = all-map (λ p h. h .eight) (known flags (b .sets)) known-paths
+
+  pub known-once : once (known flags (b .sets)) ≡ true
+  unfolding once
+  known-once = distinct-once (bound flags (b .sets)) [] refl

@@ -1,0 +1,52 @@
+-- The check of a walk (01: of a line-up): clear, or the forbidden path that ends earliest and, of those with that end, the shortest.
+use Prim.Native.Nat.{ℕ, zero, suc, _-_}
+use mathlib.Core.Bool.{Bool, cond, _&&_}
+use mathlib.Core.List.{List}
+use mathlib.Core.Option.{Option, none, some}
+use lib.Dec.{eqb, leb}
+use lib.ListN.{length}
+use lib.Seq.{slice}
+use Rattle.walks.specs.Graph.{Graph}
+use Rattle.walks.specs.Walk.{isWalk}
+use Rattle.lists.specs.Test.{any}
+use Rattle.walks.specs.Avoid.{same}
+use Rattle.rules.specs.declared.Checked.{Checked}
+use Rattle.rules.specs.declared.Checked.the-variants.{Clear, Occurs}
+
+-- The path r stands in w and ends right before place e.
+abbrev pub endsAt : List ℕ → ℕ → List ℕ → Bool
+endsAt w e r = leb (length r) e && same r (slice (e - length r) e w)
+
+-- A path of F with n vertices ends there.
+abbrev pub someEnds : List (List ℕ) → List ℕ → ℕ → ℕ → Bool
+someEnds F w e n = any (λ r. eqb (length r) n && endsAt w e r) F
+
+-- The first of k numbers from `from` on that passes.
+unfoldable pub firstFrom : (ℕ → Bool) → ℕ → ℕ → Option ℕ
+firstFrom p zero from = none
+firstFrom p (suc k) from = cond (p from) (some from) (firstFrom p k (suc from))
+
+-- Which of the paths with one end is named, by its length: the shortest, of 2 to 8 vertices.
+abbrev pub namedAt : List (List ℕ) → List ℕ → ℕ → Option ℕ
+namedAt F w e = firstFrom (someEnds F w e) 7 2
+
+-- The path that is named at e, or else what the later ends answer.
+abbrev pub answerAt : ℕ → Option ℕ → Checked → Checked
+answerAt e none later = later
+answerAt e (some n) later = Occurs (e - n) n
+
+-- The answer for k ends from e on: the first with a path that ends there.
+unfoldable pub checkFrom : List (List ℕ) → List ℕ → ℕ → ℕ → Checked
+checkFrom F w zero e = Clear
+checkFrom F w (suc k) e = answerAt e (namedAt F w e) (checkFrom F w k (suc e))
+
+abbrev pub occurrence : List (List ℕ) → List ℕ → Checked
+occurrence F w = checkFrom F w (length w) 1
+
+-- The most vertices that a walk to be checked may have.
+abbrev pub longest : ℕ
+longest = 1600
+
+-- 10: what is to be checked is a walk of the book's graph, and not too long.
+abbrev pub checkable : Graph → List ℕ → Bool
+checkable g w = leb (length w) longest && isWalk g w

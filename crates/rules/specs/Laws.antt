@@ -1,0 +1,176 @@
+-- The laws of binding and of the check.
+use Prim.Native.Nat.{ℕ, _≤_}
+use mathlib.Core.Bool.{Bool, true, false, cond}
+use mathlib.Core.List.{List, [], _∷_, _++_, List·Memᴰ, List·Memᴰ·head, List·Memᴰ·tail, List·Memᴰ·cases-cons, List·Memᴰ·append-cases, List·Memᴰ·not-nil, Memᴰ·append-left, Memᴰ·append-right, List·Permᴰ, List·Permᴰ·nil, List·Permᴰ·cons, List·Permᴰ·swap, List·Permᴰ·trans, Permᴰ·symm}
+use mathlib.Core.Logic.{⊎-elim}
+use mathlib.Core.Option.{Option, none, some, Option·none-ne-some}
+use mathlib.Core.Path.{_≡_, refl, sym, ap, ap₂, subst, _∙_}
+use native.Mathlib.Omega.{arith}
+use borrow.Author.Tests.{leb-true, le-leb}
+use lib.Dec.{leb}
+use lib.ListN.{length, drop, length-append}
+use Rattle.walks.specs.Avoid.{Avoids, _⊆_}
+use Rattle.book.specs.declared.Refusal.{Refusal}
+use Rattle.book.specs.declared.Refusal.the-variants.{NotAWalk}
+use Rattle.book.specs.Refusal.{refusalOf}
+use Rattle.book.specs.Book.{RuleSet, Book, All, IsPath, graph}
+use Rattle.book.specs.BookLaws.{reading-is-book, all-map}
+use Rattle.book.specs.Reading.{Reading, reading}
+use Rattle.book.specs.Tables.{entries}
+use Rattle.rules.specs.declared.Checked.{Checked}
+use Rattle.rules.specs.declared.Checked.the-variants.{Clear}
+use Rattle.rules.specs.Binding.{applies, bound, known, once}
+use Rattle.rules.specs.Area.{areaSize, written, spelled, valid}
+use Rattle.rules.specs.AreaLaws.{length-padded, length-entries}
+use Rattle.rules.specs.Checking.{checkable, occurrence}
+use Rattle.rules.specs.Operations.{refusalIn, bookIn, tests, Binding, outcome, bindingOf, binding, areaAfter, verdict, checkingOf, checking}
+use Rattle.rules.specs.Sets.{listed→distinct, distinct→listed}
+use Rattle.rules.specs.BindingLaws.{known-few, known-paths, known-once}
+use Rattle.rules.specs.ValidLaws.{valid→Valid, written-valid, written-spells}
+use Rattle.rules.specs.CheckLaws.{clear→Avoids, Avoids→clear}
+
+-- ---- the known paths are those of the rule sets that apply
+-- A path of a rule set that applies.
+pub record Applied (flags : ℕ) (ss : List RuleSet) (r : List ℕ) : Type 0 where
+  pub set : RuleSet
+  pub listed : List·Memᴰ set ss
+  pub applying : applies flags set ≡ true
+  pub path : List·Memᴰ r (set .paths)
+
+module _ (flags : ℕ) {r : List ℕ} where
+  bound→Applied : (ss : List RuleSet) → List·Memᴰ r (bound flags ss) → Applied flags ss r
+  unfolding bound
+  bound→Applied [] m = absurd (List·Memᴰ·not-nil m)
+  bound→Applied (s ∷ ss) m =
+      ⊎-elim (λ here. own (applies flags s) refl here) (λ there. later (bound→Applied ss there)) (List·Memᴰ·append-cases (cond (applies flags s) (s .paths) []) m)
+    where
+      own : (x : Bool) → applies flags s ≡ x → List·Memᴰ r (cond x (s .paths) []) → Applied flags (s ∷ ss) r
+      own true e k = record { set = s; listed = List·Memᴰ·head refl; applying = e; path = k }
+      own false e k = absurd (List·Memᴰ·not-nil k)
+
+      later : Applied flags ss r → Applied flags (s ∷ ss) r
+      later a = record { set = a .set; listed = List·Memᴰ·tail (a .listed); applying = a .applying; path = a .path }
+
+  Applied→bound : {s : RuleSet} {ss : List RuleSet} → List·Memᴰ s ss → applies flags s ≡ true → List·Memᴰ r (s .paths) → List·Memᴰ r (bound flags ss)
+  unfolding bound
+  Applied→bound {s} (List·Memᴰ·head {x = t} {xs = ss} e) a m =
+      Memᴰ·append-left (bound flags ss)
+      (subst (λ x. List·Memᴰ r (cond x (t .paths) [])) (sym (sym (ap (applies flags) e) ∙ a)) (subst (λ (u : RuleSet). List·Memᴰ r (u .paths)) e m))
+  Applied→bound (List·Memᴰ·tail {x = t} {xs = ss} k) a m = Memᴰ·append-right (cond (applies flags t) (t .paths) []) (Applied→bound k a m)
+
+  pub known→Applied : (ss : List RuleSet) → List·Memᴰ r (known flags ss) → Applied flags ss r
+  known→Applied ss m = ⊎-elim (λ k. absurd (List·Memᴰ·not-nil k)) (bound→Applied ss) (distinct→listed (bound flags ss) [] m)
+
+  pub Applied→known : (ss : List RuleSet) → Applied flags ss r → List·Memᴰ r (known flags ss)
+  Applied→known ss a = listed→distinct (Applied→bound (a .listed) (a .applying) (a .path)) []
+
+-- ---- the order of the rule sets does not matter
+permuted : {s : RuleSet} {ss ts : List RuleSet} → List·Permᴰ ss ts → List·Memᴰ s ss → List·Memᴰ s ts
+permuted List·Permᴰ·nil m = m
+permuted (List·Permᴰ·cons e d) m = ⊎-elim (λ here. List·Memᴰ·head (here ∙ e)) (λ later. List·Memᴰ·tail (permuted d later)) (List·Memᴰ·cases-cons m)
+permuted (List·Permᴰ·swap e f) m =
+    ⊎-elim (λ first. List·Memᴰ·tail (List·Memᴰ·head (first ∙ e)))
+    (λ rest. ⊎-elim (λ second. List·Memᴰ·head (second ∙ f)) (λ later. List·Memᴰ·tail (List·Memᴰ·tail later)) (List·Memᴰ·cases-cons rest))
+    (List·Memᴰ·cases-cons m)
+permuted (List·Permᴰ·trans d e) m = permuted e (permuted d m)
+
+-- Books whose rule sets are those of each other in another order have the same known paths.
+pub same-set : (flags : ℕ) (b c : Book) → List·Permᴰ (b .sets) (c .sets) → (known flags (b .sets) ⊆ known flags (c .sets)) × (known flags (c .sets) ⊆ known flags (b .sets))
+same-set flags b c d = (within b c d, within c b (Permᴰ·symm d))
+  where
+    within : (b c : Book) → List·Permᴰ (b .sets) (c .sets) → known flags (b .sets) ⊆ known flags (c .sets)
+    within b c d r m =
+        let a = known→Applied flags (b .sets) m in
+        Applied→known flags (c .sets) (record { set = a .set; listed = permuted d (a .listed); applying = a .applying; path = a .path })
+
+-- ---- an accepted bind
+-- What the area then holds.
+pub record Filled (s : List ℕ) (flags : ℕ) (area : List ℕ) (F : List (List ℕ)) : Type 0 where
+  pub book : Book
+  pub read : reading s ≡ Reading.accepted book
+  pub paths : F ≡ known flags (book .sets)
+  pub few : length F ≤ 256
+  pub proper : All (IsPath (book .count)) F
+  pub different : once F ≡ true
+  pub long : areaSize ≤ length (areaAfter (binding s flags area) area)
+  pub validity : valid (book .count) (areaAfter (binding s flags area) area) (length F) ≡ true
+  pub spells : spelled (length F) (areaAfter (binding s flags area) area) ≡ F
+
+outcome-bound : (o : Option Refusal) (G F : List (List ℕ)) → outcome o G ≡ Binding.bound F → G ≡ F
+outcome-bound none G F e = cc
+outcome-bound (some q) G F e = absurd (let z : _≡_ {A = ℕ} 0 1 = cc in omega arith)
+
+module _ (s : List ℕ) (flags : ℕ) (area : List ℕ) where
+  pub bind-accepted : (F : List (List ℕ)) → binding s flags area ≡ Binding.bound F → Filled s flags area F
+  bind-accepted F is = go (reading s) refl is
+    where
+      go : (r : Reading) → reading s ≡ r → bindingOf r flags area ≡ Binding.bound F → Filled s flags area F
+      go (Reading.refused q) read e = absurd (let z : _≡_ {A = ℕ} 0 1 = cc in omega arith)
+      go (Reading.accepted b) read e =
+          let well = reading-is-book s b read .well-formed in
+          let after : areaAfter (binding s flags area) area ≡ written F ++ drop areaSize area = ap (λ x. areaAfter x area) is in
+          let F-is : known flags (b .sets) ≡ F = outcome-bound (refusalOf (tests (Reading.accepted b) area true true)) (known flags (b .sets)) F e in
+          let few : length F ≤ 256 = subst (λ G. length G ≤ 256) F-is (known-few flags b well) in
+          let proper : All (IsPath (b .count)) F = subst (All (IsPath (b .count))) F-is (known-paths flags b well) in
+          let different : once F ≡ true = ap once (sym F-is) ∙ known-once flags b well in
+          let full : length (written F) ≡ areaSize = length-padded areaSize (entries F) (omega (arith, length-entries F (all-map (λ p h. h .eight) F proper))) in
+          record {
+            book = b;
+            read = read;
+            paths = sym F-is;
+            few = few;
+            proper = proper;
+            different = different;
+            long = omega (arith, ap length after ∙ length-append (written F) (drop areaSize area), full);
+            validity = ap (λ t. valid (b .count) t (length F)) after ∙ written-valid (b .count) F few proper different (drop areaSize area);
+            spells = ap (spelled (length F)) after ∙ written-spells (b .count) F few proper different (drop areaSize area);
+          }
+
+-- ---- the check
+-- what no refusal tells of each group
+passed : (o : Option Refusal) (x y z : Bool) → refusalOf (record { book = o; areas = x; endpoints = true; valid = y; walk = z; standing = true; named = true; room = true }) ≡ none
+    → (x ≡ true) × (y ≡ true) × (z ≡ true)
+passed (some q) x y z e = absurd (Option·none-ne-some _ (sym e))
+passed none false y z e = absurd (Option·none-ne-some _ (sym e))
+passed none true false z e = absurd (Option·none-ne-some _ (sym e))
+passed none true true false e = absurd (Option·none-ne-some _ (sym e))
+passed none true true true e = (refl, refl, refl)
+
+-- the paths of a valid area have 2 to 8 vertices
+sizes : (v : ℕ) (F : List (List ℕ)) → All (IsPath v) F → (r : List ℕ) → List·Memᴰ r F → (2 ≤ length r) × (length r ≤ 8)
+sizes v [] h r m = absurd (List·Memᴰ·not-nil m)
+sizes v (p ∷ F) h r m =
+    ⊎-elim (λ here. (rw here (h .0 .two), rw here (h .0 .eight))) (sizes v F (h .1) r) (List·Memᴰ·cases-cons m)
+
+module _ (s area : List ℕ) (count : ℕ) (w : List ℕ) where
+  abbrev pub checkTests : Option Refusal
+  checkTests = refusalOf (tests (reading s) area (valid (bookIn (reading s) .count) area count) (checkable (graph (bookIn (reading s))) w))
+
+  -- A walk that the check finds clear avoids the forbidden paths of the area ...
+  pub clear-avoids : checking s area count w ≡ Clear → Avoids (spelled count area) w
+  clear-avoids e = go checkTests refl e
+    where
+      go : (o : Option Refusal) → checkTests ≡ o → verdict o (occurrence (spelled count area) w) ≡ Clear → Avoids (spelled count area) w
+      go (some q) is h = absurd (let z : _≡_ {A = ℕ} 0 1 = cc in omega arith)
+      go none is h =
+          let (long, ok, _) =
+          passed (refusalIn (reading s)) (leb areaSize (length area)) (valid (bookIn (reading s) .count) area count) (checkable (graph (bookIn (reading s))) w) is in
+          let v = valid→Valid (bookIn (reading s) .count) area count (leb-true areaSize (length area) long) ok in
+          clear→Avoids (spelled count area) w (sizes (bookIn (reading s) .count) (spelled count area) (v .paths)) h
+
+  -- ... and one that avoids them is found clear, where nothing is refused.
+  pub avoids-clear : checkTests ≡ none → Avoids (spelled count area) w → checking s area count w ≡ Clear
+  avoids-clear e h = ap (λ o. verdict o (occurrence (spelled count area) w)) e ∙ Avoids→clear (spelled count area) w h
+
+-- With the area and the count of an accepted bind only 10 is refused, and the check is that of the known paths.
+pub bind-then-check : (s : List ℕ) (flags : ℕ) (area : List ℕ) (F : List (List ℕ)) (f : Filled s flags area F) (w : List ℕ)
+    → checking s (areaAfter (binding s flags area) area) (length F) w ≡ verdict (cond (checkable (graph (f .book)) w) none (some NotAWalk)) (occurrence F w)
+bind-then-check s flags area F f w =
+    let after = areaAfter (binding s flags area) area in
+    ap (λ r. checkingOf r after (length F) w) (f .read)
+    ∙ ap (λ x. decided x (valid (f .book .count) after (length F)) (spelled (length F) after)) (le-leb areaSize (length after) (f .long))
+    ∙ ap₂ (decided true) (f .validity) (f .spells)
+  where
+    decided : Bool → Bool → List (List ℕ) → Checked
+    decided x y G =
+        verdict (refusalOf (record { book = none; areas = x; endpoints = true; valid = y; walk = checkable (graph (f .book)) w; standing = true; named = true; room = true })) (occurrence G w)

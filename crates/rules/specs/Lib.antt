@@ -1,0 +1,12 @@
+pub mod Binding
+pub mod Area
+pub mod Checking
+pub mod Operations
+pub mod Examples
+pub mod Sets
+pub mod AreaLaws
+pub mod Listed
+pub mod BindingLaws
+pub mod ValidLaws
+pub mod CheckLaws
+pub mod Laws

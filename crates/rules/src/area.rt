@@ -1,0 +1,102 @@
+// The runs area: its entries, and whether it is valid.
+ghost use mathlib.Core.Path.{_≡_};
+ghost use Prim.Native.Nat.{_+_, _*_, _≤_, _<_};
+ghost use lib.ListN.{length, take, drop};
+ghost use lib.Seq.{paste};
+ghost use Rattle.walks.specs.Avoid.{same};
+ghost use Rattle.rules.specs.Binding.{member};
+ghost use Rattle.rules.specs.Area.{blocks, areaSize};
+ghost use Rattle.rules.specs.Area.{isEntry as Area·isEntry, valid as Area·valid};
+use crate::AREA;
+use book::simple;
+
+pub fn wide(x: u8) -> usize
+    ensures { λ r. ⌜ r ≡ x ⌝ }
+    ensures { λ r. ⌜ r < 256 ⌝ }
+{
+    x as usize
+}
+
+pub fn copy(src: &[u8], from: usize, dst: &mut [u8], to: usize, n: usize)
+    requires { ⌜ from + n ≤ length (now src) ⌝ }
+    requires { ⌜ to + n ≤ length (now dst) ⌝ }
+    ensures { λ _. ⌜ now (dst .exit) ≡ paste (now (dst .entry)) to (drop from (now (src .entry))) n ⌝ }
+{
+    let mut i = 0;
+    while i < n {
+        dst[to + i] = src[from + i];
+        i += 1;
+    }
+}
+
+// Whether n bytes of a from `at` on are those of b from `from` on.
+fn same_bytes(a: &[u8], at: usize, b: &[u8], from: usize, n: usize) -> bool
+    requires { ⌜ at + n ≤ length (now a) ⌝ }
+    requires { ⌜ from + n ≤ length (now b) ⌝ }
+    ensures { λ r. ⌜ r ≡ same (take n (drop at (now (a .entry)))) (take n (drop from (now (b .entry)))) ⌝ }
+{
+    let mut i = 0;
+    while i < n {
+        if a[at + i] != b[from + i] {
+            return false;
+        }
+        i += 1;
+    }
+    true
+}
+
+// Whether the entry at byte `at` of b is among the first n of `table`.
+pub fn found(b: &[u8], at: usize, table: &[u8], n: usize) -> bool
+    requires { ⌜ at + 9 ≤ length (now b) ⌝ }
+    requires { ⌜ n * 9 ≤ length (now table) ⌝ }
+    ensures { λ r. ⌜ r ≡ member (take 9 (drop at (now (b .entry)))) (blocks n (now (table .entry))) ⌝ }
+{
+    let mut k = 0;
+    while k < n {
+        if same_bytes(b, at, table, k * 9, 9) {
+            return true;
+        }
+        k += 1;
+    }
+    false
+}
+
+// Whether the entry at byte `at` is one that the book's rules take.
+fn is_entry(area: &[u8], at: usize, vertices: usize) -> bool
+    requires { ⌜ at + 9 ≤ length (now area) ⌝ }
+    ensures { λ r. ⌜ r ≡ Area·isEntry vertices (take 9 (drop at (now (area .entry)))) ⌝ }
+{
+    let n = wide(area[at]);
+    if n < 2 {
+        return false;
+    }
+    if 8 < n {
+        return false;
+    }
+    simple(area, at + 1, at + 1 + n, vertices)
+}
+
+// The paths are entered into a blank area one after the other, which at the end is to be the area itself.
+pub fn valid(area: &[u8], count: usize, vertices: usize) -> bool
+    requires { ⌜ areaSize ≤ length (now area) ⌝ }
+    ensures { λ r. ⌜ r ≡ Area·valid vertices (now (area .entry)) count ⌝ }
+{
+    if 256 < count {
+        return false;
+    }
+    let mut clean = [0u8; 2304];
+    let mut k = 0;
+    while k < count {
+        let at = k * 9;
+        if !is_entry(area, at, vertices) {
+            return false;
+        }
+        let n = wide(area[at]);
+        copy(area, at, &mut clean, at, 1 + n);
+        if found(&clean, at, &clean, k) {
+            return false;
+        }
+        k += 1;
+    }
+    same_bytes(area, 0, &clean, 0, AREA)
+}

@@ -1,0 +1,81 @@
+// Rule sets: which apply to a batch, the forbidden paths that are known then, and the check of a walk against them.
+ghost use mathlib.Core.Path.{_≡_};
+ghost use Rattle.rules.specs.Operations.{binding, areaAfter, checking};
+ghost use Rattle.rules.specs.Operations.{answer as Binding·answer};
+
+mod area;
+mod gather;
+mod walk;
+
+use area::copy;
+use area::valid;
+use book::Answer;
+use book::NO_ARC;
+use book::Refusal;
+use gather::gather;
+use walk::is_walk;
+use walk::search;
+
+// How many bytes the runs area has.
+pub const AREA: usize = 2304;
+
+pub enum Bound {
+    Known(usize),
+    Refused(Refusal),
+}
+
+// A walk is clear, or a forbidden path occurs in it: the place of its first vertex, and its length.
+pub enum Checked {
+    Clear,
+    Occurs(usize, usize),
+    Refused(Refusal),
+}
+
+// Writes the forbidden paths that are known for a batch with these flags, and answers how many they are.
+pub fn bind(bytes: &[u8], flags: u16, area: &mut [u8]) -> Bound
+    ensures { λ r. ⌜ (r ≡ Binding·answer (binding (now (bytes .entry)) flags (now (area .entry)))) × (now (area .exit) ≡ areaAfter (binding (now (bytes .entry)) flags (now (area .entry))) (now (area .entry))) ⌝ }
+{
+    let mut weights = [NO_ARC; 4096];
+    let mut needed = [0u16; 16];
+    let mut owners = [0u8; 256];
+    let mut entries = [0u8; 2304];
+    let read = book::load(bytes, &mut weights, &mut needed, &mut owners, &mut entries);
+    match read {
+        Answer::Refused(r) => Bound::Refused(r),
+        Answer::Read(counts) => {
+            if area.len() < AREA {
+                return Bound::Refused(Refusal::Area);
+            }
+            let mut known = [0u8; 2304];
+            let n = gather(&needed, &owners, &entries, counts.paths, flags, &mut known);
+            copy(&known, 0, area, 0, AREA);
+            Bound::Known(n)
+        }
+    }
+}
+
+// Checks a walk against the forbidden paths of a runs area.
+pub fn check(bytes: &[u8], area: &[u8], count: usize, walk: &[u8]) -> Checked
+    ensures { λ r. ⌜ r ≡ checking (now (bytes .entry)) (now (area .entry)) count (now (walk .entry)) ⌝ }
+{
+    let mut weights = [NO_ARC; 4096];
+    let mut needed = [0u16; 16];
+    let mut owners = [0u8; 256];
+    let mut entries = [0u8; 2304];
+    let read = book::load(bytes, &mut weights, &mut needed, &mut owners, &mut entries);
+    match read {
+        Answer::Refused(r) => Checked::Refused(r),
+        Answer::Read(counts) => {
+            if area.len() < AREA {
+                return Checked::Refused(Refusal::Area);
+            }
+            if !valid(area, count, counts.vertices) {
+                return Checked::Refused(Refusal::Invalid);
+            }
+            if !is_walk(&weights, counts.vertices, walk) {
+                return Checked::Refused(Refusal::NotAWalk);
+            }
+            search(area, count, walk)
+        }
+    }
+}

@@ -1,0 +1,80 @@
+// The check of a walk.
+ghost use mathlib.Core.Path.{_≡_};
+ghost use Prim.Native.Nat.{_+_, _*_, _≤_, _<_};
+ghost use lib.ListN.{length, getD};
+ghost use Rattle.book.specs.Book.{Book, All, WellFormed, graph};
+ghost use Rattle.book.specs.Tables.{weightTable};
+ghost use Rattle.rules.specs.Area.{blocks, spelled};
+ghost use Rattle.rules.specs.Checking.{occurrence, checkable};
+use crate::Checked;
+use crate::area::wide;
+use book::NO_ARC;
+
+// How many vertices a walk that is checked may have.
+const LONGEST: usize = 1600;
+
+// Whether what is to be checked is a walk, and not too long.
+pub fn is_walk(weights: &[u32; 4096], vertices: usize, walk: &[u8]) -> bool
+    requires { ⌜ vertices ≤ 64 ⌝ }
+    ensures { λ r. ⌜ ((b : Book) → WellFormed b → vertices ≡ b .count → now (weights .entry) ≡ weightTable (b .arcs) → r ≡ checkable (graph b) (now (walk .entry))) ⌝ }
+{
+    if LONGEST < walk.len() {
+        return false;
+    }
+    if walk.len() == 0 {
+        return false;
+    }
+    let mut u = wide(walk[0]);
+    if vertices <= u {
+        return false;
+    }
+    let mut i = 1;
+    while i < walk.len() {
+        let v = wide(walk[i]);
+        if vertices <= v {
+            return false;
+        }
+        if weights[u * 64 + v] == NO_ARC {
+            return false;
+        }
+        u = v;
+        i += 1;
+    }
+    true
+}
+
+// The path that ends earliest and, of those with that end, the shortest: ends, lengths, paths and their vertices in turn.
+pub fn search(area: &[u8], count: usize, walk: &[u8]) -> Checked
+    requires { ⌜ count * 9 ≤ length (now area) ⌝ }
+    requires { ⌜ All (λ e. getD e 0 0 ≤ 8) (blocks count (now area)) ⌝ }
+    ensures { λ r. ⌜ r ≡ occurrence (spelled count (now (area .entry))) (now (walk .entry)) ⌝ }
+{
+    let mut answer = Checked::Clear;
+    let mut end = 1;
+    'ends: while end <= walk.len() {
+        let mut n = 2;
+        while n <= 8 && n <= end {
+            let place = end - n;
+            let mut k = 0;
+            'paths: while k < count {
+                let at = k * 9;
+                k += 1;
+                if wide(area[at]) != n {
+                    continue 'paths;
+                }
+                let mut i = 0;
+                while i < n {
+                    if area[at + 1 + i] != walk[place + i] {
+                        continue 'paths;
+                    }
+                    i += 1;
+                }
+                answer = Checked::Occurs(place, n);
+                break 'ends;
+            }
+            n += 1;
+        }
+        end += 1;
+    }
+    answer
+}
