@@ -177,6 +177,9 @@ finished {F} {n} {m} {steps} {marks} p = record {
   step = λ q v a b. row-settled F (p .words) (getD (p .words) q []) v (getD steps (q * 64 + v) 0) (λ w i. p .numbered .only w i .0) (λ s. all (v ∷ getD (p .words) q []) s b) (p .rows q v a b);
   mark = λ q v a. mark (getD (p .words) q []) v (bit (getD marks q 0) v) (p .numbered .low q a) (p .marked-so q v a);
   stands = p .stands;
+  steps-length = p .sizes .of-steps;
+  marks-length = p .sizes .of-marks;
+  latests-length = p .sizes .of-latests;
 }
   where
     all : (q : List ℕ) → State F q → latest q < n → List·Memᴰ q (p .words)

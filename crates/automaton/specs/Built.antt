@@ -31,3 +31,6 @@ pub record Built (F : List (List ℕ)) (n m : ℕ) (steps marks latests : List �
   pub step : (q v : ℕ) → q < m → v < n → Numbers words (getD steps (q * 64 + v) 0) (go F (getD words q []) v)
   pub mark : (q v : ℕ) → q < m → bit (getD marks q 0) v ≡ flag (blocked F (getD words q []) v)
   pub stands : (q : ℕ) → q < m → getD latests q 0 ≡ latest (getD words q [])
+  pub steps-length : length steps ≡ 102400
+  pub marks-length : length marks ≡ 1600
+  pub latests-length : length latests ≡ 1600

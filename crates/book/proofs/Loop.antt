@@ -12,18 +12,9 @@ use Rattle.book.specs.declared.Counts.{Counts}
 use Rattle.book.specs.declared.Kind.{Kind}
 use Rattle.book.specs.declared.Kind.the-variants.{VertexCount, Path, Unknown}
 use Rattle.book.specs.Book.{Book, WellFormed, allPaths, blank, counts}
-use Rattle.book.specs.BookLaws.{blank-well-formed, field-passed, field-extends, field-well-formed}
+use Rattle.book.specs.BookLaws.{answer-read, answer-refused, blank-well-formed, field-passed, field-extends, field-well-formed}
 use Rattle.book.specs.Reading.{Reading, accepted, refused, answer, kindAt, endAt, arcAt, andThen, extended, kept, field, fields, reading}
 use Rattle.book.specs.Tables.{Blank, Tables, entered, ownersFrom, entries}
-
--- an answer tells the reading
-answer-read : (r : Reading) (d : Counts) → answer r ≡ Read d → (b : Book) × (r ≡ accepted b) × (d ≡ counts b)
-answer-read (accepted b) d e = (b, refl, cc)
-answer-read (refused q) d e = absurd (let z : _≡_ {A = ℕ} 0 1 = cc in omega arith)
-
-answer-refused : (r : Reading) (q : Refusal) → answer r ≡ Refused q → r ≡ refused q
-answer-refused (accepted b) q e = absurd (let z : _≡_ {A = ℕ} 0 1 = cc in omega arith)
-answer-refused (refused p) q e = let same : p ≡ q = cc in ap refused same
 
 pub not-both : (r : Reading) (b : Book) (q : Refusal) → r ≡ accepted b → r ≡ refused q → ⊥
 not-both r b q p e = let z : _≡_ {A = ℕ} 0 1 = cc in omega arith

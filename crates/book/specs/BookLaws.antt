@@ -12,14 +12,16 @@ use lib.Dec.{eqb, leb, ltb}
 use lib.ListN.{length, length-append}
 use lib.Seq.{length-slice}
 use Rattle.book.specs.declared.Refusal.{Refusal}
+use Rattle.book.specs.declared.Answer.the-variants.{Read, Refused}
+use Rattle.book.specs.declared.Counts.{Counts}
 use Rattle.book.specs.declared.Kind.{Kind}
 use Rattle.book.specs.declared.Kind.the-variants.{VertexCount, Path, Unknown}
 use Rattle.book.specs.Refusal.{Test, firstFailure}
 use Rattle.book.specs.RefusalLaws.{all-hold}
 use Rattle.lists.specs.Test.{and-true, or-false, either}
 use Rattle.walks.specs.Graph.{Arc, isSome, weightIn}
-use Rattle.book.specs.Book.{RuleSet, Book, blank, allPaths, given, properArc, names, simple, All, IsArc, IsPath, PairsOnce, VerticesOnce, WellFormed}
-use Rattle.book.specs.Reading.{Reading, accepted, refused, kindAt, lengthAt, endAt, countAt, arcAt, flagsAt, pathAt, follows, fits, proper, fresh, room, framing, content, extended, addPath, outcome, field, fields, andThen, reading}
+use Rattle.book.specs.Book.{RuleSet, Book, blank, allPaths, counts, given, properArc, names, simple, All, IsArc, IsPath, PairsOnce, VerticesOnce, WellFormed}
+use Rattle.book.specs.Reading.{Reading, accepted, refused, answer, kindAt, lengthAt, endAt, countAt, arcAt, flagsAt, pathAt, follows, fits, proper, fresh, room, framing, content, extended, addPath, outcome, field, fields, andThen, reading}
 
 -- ---- lists
 pub all-map : {A : Type 0} {P Q : A → Type 0} → ((x : A) → P x → Q x) → (xs : List A) → All P xs → All Q xs
@@ -282,6 +284,15 @@ reading-is-book [] b e = absurd (let z : _≡_ {A = ℕ} 0 1 = cc in omega arith
 reading-is-book (x ∷ s) b e =
     let (b₁, here, rest) = and-then-accepted (field (x ∷ s) blank 0) _ b (rw (lt-ltb 0 (length (x ∷ s)) (omega arith)) at e) in
     fields-is-book (length s) (x ∷ s) b₁ _ b (field-is-book (x ∷ s) blank 0 b₁ blank-well-formed here) rest
+
+-- an answer tells the reading
+pub answer-read : (r : Reading) (d : Counts) → answer r ≡ Read d → (b : Book) × (r ≡ accepted b) × (d ≡ counts b)
+answer-read (accepted b) d e = (b, refl, cc)
+answer-read (refused q) d e = absurd (let z : _≡_ {A = ℕ} 0 1 = cc in omega arith)
+
+pub answer-refused : (r : Reading) (q : Refusal) → answer r ≡ Refused q → r ≡ refused q
+answer-refused (accepted b) q e = absurd (let z : _≡_ {A = ℕ} 0 1 = cc in omega arith)
+answer-refused (refused p) q e = let same : p ≡ q = cc in ap refused same
 
 -- The turns of `reading` never run out: more of them change nothing.
 fields-more : (turns more : ℕ) (s : List ℕ) (b : Book) (at : ℕ) → length s ≤ at + turns → fields (turns + more) s b at ≡ fields turns s b at

@@ -1,30 +1,20 @@
 -- A book that has been loaded into tables.
 use Prim.Native.Nat.{ℕ, _≤_, _<_}
 use mathlib.Core.List.{List}
-use mathlib.Core.Path.{_≡_, refl, sym, ap, _∙_}
+use mathlib.Core.Path.{_≡_, sym, ap, _∙_}
 use native.Mathlib.Omega.{arith}
 use lib.ListN.{length, getD}
-use Rattle.book.specs.declared.Refusal.{Refusal}
 use Rattle.book.specs.declared.Answer.{Answer}
-use Rattle.book.specs.declared.Answer.the-variants.{Read, Refused}
+use Rattle.book.specs.declared.Answer.the-variants.{Read}
 use Rattle.book.specs.declared.Counts.{Counts}
 use Rattle.book.specs.Book.{Book, All, WellFormed, allPaths, counts}
-use Rattle.book.specs.BookLaws.{reading-is-book, all-map}
-use Rattle.book.specs.Reading.{Reading, accepted, refused, reading, answer}
+use Rattle.book.specs.BookLaws.{answer-read, reading-is-book, all-map}
+use Rattle.book.specs.Reading.{accepted, reading, answer}
 use Rattle.book.specs.Tables.{Tables, entries}
 use Rattle.rules.specs.Area.{areaSize}
 use Rattle.rules.specs.AreaLaws.{Short, length-padded, length-entries}
 use Rattle.rules.specs.Listed.{Listed}
 use Rattle.rules.proofs.Gathered.{owners-below}
-
--- an answer tells the reading
-answer-read : (r : Reading) (d : Counts) → answer r ≡ Read d → (b : Book) × (r ≡ accepted b) × (d ≡ counts b)
-answer-read (accepted b) d e = (b, refl, cc)
-answer-read (refused q) d e = absurd (let z : _≡_ {A = ℕ} 0 1 = cc in omega arith)
-
-pub answer-refused : (r : Reading) (q : Refusal) → answer r ≡ Refused q → r ≡ refused q
-answer-refused (accepted b) q e = absurd (let z : _≡_ {A = ℕ} 0 1 = cc in omega arith)
-answer-refused (refused p) q e = let same : p ≡ q = cc in ap refused same
 
 -- the book that the tables and the counts stand for
 pub record Loaded (s : List ℕ) (d : Counts) (w f o p : List ℕ) : Type 0 where

@@ -8,7 +8,7 @@ mod gather;
 mod walk;
 
 use area::copy;
-use area::valid;
+pub use area::valid;
 use book::Answer;
 use book::NO_ARC;
 use book::Refusal;

@@ -5,7 +5,8 @@ use denote.Ref.{now}
 use lib.ListN.{length}
 use Rattle.rules.specs.Area.{written}
 use Rattle.rules.specs.Binding.{known}
-use Rattle.rules.proofs.Loaded.{Loaded, loaded, answer-refused, listed, few-paths, owners-fit, entries-length}
+use Rattle.book.specs.BookLaws.{answer-refused}
+use Rattle.rules.proofs.Loaded.{Loaded, loaded, listed, few-paths, owners-fit, entries-length}
 use Rattle.rules.proofs.Binds.{bind-refused, bind-small, bind-known}
 use borrow.Author.Needs.{needs}
 use borrow.Author.Needs.{needs}

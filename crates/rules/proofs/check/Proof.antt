@@ -8,7 +8,8 @@ use Rattle.book.specs.Book.{graph}
 use Rattle.rules.specs.Area.{valid}
 use Rattle.rules.specs.Checking.{checkable}
 use Rattle.rules.specs.ValidLaws.{valid-fits}
-use Rattle.rules.proofs.Loaded.{Loaded, loaded, answer-refused, vertices-are, few-vertices}
+use Rattle.book.specs.BookLaws.{answer-refused}
+use Rattle.rules.proofs.Loaded.{Loaded, loaded, vertices-are, few-vertices}
 use Rattle.rules.proofs.Checks.{check-refused, check-small, check-invalid, check-not-walk, check-done}
 use borrow.Author.Needs.{needs}
 use borrow.Author.Needs.{needs}

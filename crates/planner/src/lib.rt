@@ -1,0 +1,121 @@
+// Planning: the best walk of a book under the forbidden paths of a runs area.
+ghost use mathlib.Core.Path.{_≡_};
+ghost use mathlib.Core.List.{List};
+ghost use Prim.Native.Nat.{ℕ, _<_, _≤_};
+ghost use lib.ListN.{length};
+ghost use Rattle.walks.specs.Graph.{Graph};
+ghost use Rattle.automaton.specs.Area.{Given, Spells, Bounded};
+ghost use Rattle.book.specs.Book.{Book, WellFormed};
+ghost use Rattle.book.specs.Tables.{weightTable};
+ghost use Rattle.search.specs.Plan.{Planned};
+ghost use Rattle.search.specs.Weights.{Weights};
+ghost use Rattle.planner.specs.Planning.{Planning, PlanningIn};
+use book::Answer;
+use book::NO_ARC;
+use book::Refusal;
+use search::Found;
+
+// How many bytes the area of a walk has.
+pub const LONGEST: usize = 1600;
+
+pub enum Outcome {
+    Walk { weight: u64, hops: usize },
+    Nothing,
+    Refused(Refusal),
+}
+
+// Writes the best walk from start to end into the front of the area `walk`, and answers its weight and hops.
+pub fn plan(
+    bytes: &[u8],
+    paths: &[u8],
+    count: usize,
+    start: u8,
+    end: u8,
+    walk: &mut [u8],
+) -> Outcome
+    ensures { λ r. ⌜ Planning (now (bytes .entry)) (now (paths .entry)) count start end (now (walk .entry)) r (now (walk .exit)) ⌝ }
+{
+    let mut weights = [NO_ARC; 4096];
+    let mut flags = [0u16; 16];
+    let mut owners = [0u8; 256];
+    let mut entries = [0u8; 2304];
+    let read = book::load(bytes, &mut weights, &mut flags, &mut owners, &mut entries);
+    match read {
+        Answer::Refused(r) => Outcome::Refused(r),
+        Answer::Read(counts) => plan_in(&weights, counts.vertices, paths, count, start, end, walk),
+    }
+}
+
+// The same in a book that has been read.
+fn plan_in(
+    weights: &[u32; 4096],
+    vertices: usize,
+    paths: &[u8],
+    count: usize,
+    start: u8,
+    end: u8,
+    walk: &mut [u8],
+) -> Outcome
+    requires { ⌜ ((b : Book) × WellFormed b × (vertices ≡ b .count) × (now weights ≡ weightTable (b .arcs))) ⌝ }
+    ensures { λ r. ⌜ ((b : Book) → WellFormed b → vertices ≡ b .count → now (weights .entry) ≡ weightTable (b .arcs) → PlanningIn b (now (paths .entry)) count start end (now (walk .entry)) r (now (walk .exit))) ⌝ }
+{
+    if paths.len() < rules::AREA {
+        return Outcome::Refused(Refusal::Area);
+    }
+    if walk.len() < LONGEST {
+        return Outcome::Refused(Refusal::Area);
+    }
+    let s = start as usize;
+    if vertices <= s {
+        return Outcome::Refused(Refusal::Endpoint);
+    }
+    if vertices <= end as usize {
+        return Outcome::Refused(Refusal::Endpoint);
+    }
+    if !rules::valid(paths, count, vertices) {
+        return Outcome::Refused(Refusal::Invalid);
+    }
+    match best_walk(weights, vertices, paths, count, s, end, walk) {
+        Found::Walk { weight, hops } => Outcome::Walk { weight, hops },
+        Found::Nothing => Outcome::Nothing,
+    }
+}
+
+// The best walk, over the automaton of the forbidden paths.
+fn best_walk(
+    weights: &[u32; 4096],
+    vertices: usize,
+    paths: &[u8],
+    count: usize,
+    start: usize,
+    end: u8,
+    walk: &mut [u8],
+) -> Found
+    requires { ⌜ Given (now paths) count vertices ⌝ }
+    requires { ⌜ ((g : Graph) × (g .count ≡ vertices) × Weights g (now weights)) ⌝ }
+    requires { ⌜ (start < vertices) × (1600 ≤ length (now walk)) ⌝ }
+    ensures { λ r. ⌜ ((g : Graph) (F : List (List ℕ)) → g .count ≡ vertices → Weights g (now (weights .entry)) → Spells (now (paths .entry)) count F → Bounded vertices F → Planned g F start end (now (walk .entry)) r (now (walk .exit))) ⌝ }
+{
+    let mut steps = [0u16; 102400];
+    let mut blocked = [0u64; 1600];
+    let mut latest = [0u8; 1600];
+    let states = automaton::build(
+        paths,
+        count,
+        vertices,
+        &mut steps,
+        &mut blocked,
+        &mut latest,
+    );
+    search::best_walk(
+        vertices,
+        states,
+        start,
+        end,
+        weights,
+        &steps,
+        &blocked,
+        &latest,
+        walk,
+    )
+}

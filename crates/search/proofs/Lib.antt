@@ -1,0 +1,4 @@
+pub mod Filling
+pub mod Targeting
+pub mod Choosing
+pub mod Walking
