@@ -1,13 +1,13 @@
 -- A valid runs area spells its forbidden set, as the automaton's builder reads it.
-use Prim.Native.Nat.{ℕ, _+_, _-_, _*_, _≤_, _<_}
+use Prim.Native.Nat.{ℕ, _+_, _-_, _≤_, _<_}
 use mathlib.Core.List.{List, [], _∷_, _++_, append-assoc, List·Memᴰ, List·Memᴰ·cases-cons, List·Memᴰ·not-nil}
 use mathlib.Core.Logic.{⊎-elim}
-use mathlib.Core.Path.{_≡_, refl, sym, ap, subst, _∙_}
+use mathlib.Core.Path.{_≡_, sym, ap, subst, _∙_}
 use native.Mathlib.Omega.{arith}
-use lib.ListN.{length, take, drop, replicate, take-append-drop, length-replicate, length-map}
+use lib.ListN.{length, drop, replicate, take-append-drop, length-replicate, length-map}
 use Rattle.book.specs.Book.{All, IsPath}
 use Rattle.book.specs.BookLaws.{all-map}
-use Rattle.book.specs.Tables.{entries, entry, padded}
+use Rattle.book.specs.Tables.{entries, entry}
 use Rattle.rules.specs.Area.{areaSize, spelled, blocks}
 use Rattle.rules.specs.AreaLaws.{Short, length-blocks}
 use Rattle.rules.specs.ValidLaws.{Valid}

@@ -1,6 +1,4 @@
 // Plans each case of a stream: marks in two bytes (high byte first), start, end, and a book.
-ghost use Prim.Native.Nat.{_≤_};
-ghost use lib.ListN.{length};
 use book::Refusal;
 use cases::Next;
 use cases::number;

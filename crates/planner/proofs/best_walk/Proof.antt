@@ -2,9 +2,8 @@
 use borrow.Author.Needs.{needs}
 use denote.Ref.{now}
 use mathlib.Core.List.{List}
-use mathlib.Core.Path.{_≡_, refl, sym}
+use mathlib.Core.Path.{refl, sym}
 use Prim.Native.Nat.{ℕ}
-use Rattle.walks.specs.Graph.{Graph}
 use Rattle.walks.specs.Avoid.{Avoids·single}
 use Rattle.automaton.specs.Area.{Spells, Bounded}
 use Rattle.automaton.specs.Built.{Built}

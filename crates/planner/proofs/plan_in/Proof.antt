@@ -10,8 +10,6 @@ use Rattle.book.specs.Book.{Book, WellFormed, graph}
 use Rattle.book.specs.Tables.{weightTable}
 use Rattle.rules.specs.Area.{valid, spelled}
 use Rattle.rules.specs.ValidLaws.{Valid, valid→Valid}
-use Rattle.search.specs.declared.Found.{Found}
-use Rattle.search.specs.Plan.{Planned}
 use Rattle.search.specs.Weights.{Weights, book-weights}
 use Rattle.planner.specs.Planning.{PlanningIn}
 use Rattle.planner.proofs.Area.{valid-spells, valid-bounded, valid-given}
