@@ -1,6 +1,6 @@
 -- What a plan is, and that the search over the tables gives it.
 use mathlib.Core.List.{List, [], _∷_, _++_}
-use mathlib.Core.Path.{_≡_, refl, sym, ap, ap₂, subst, _∙_}
+use mathlib.Core.Path.{_≡_, refl, sym, ap, subst, _∙_}
 use Prim.Native.Nat.{ℕ, _-_, _*_, _/_, _%_, _<_, _≤_}
 use native.Mathlib.Omega.{arith}
 use lib.ListN.{length, take, drop, replicate, length-replicate}
@@ -8,7 +8,7 @@ use lib.Seq.{length-take-le}
 use Rattle.walks.specs.Graph.{Graph}
 use Rattle.walks.specs.Walk.{weightOf, hops}
 use Rattle.walks.specs.Avoid.{Avoids}
-use Rattle.walks.specs.Best.{Best, None, Best·unique, Best·not-None}
+use Rattle.walks.specs.Best.{Best, None}
 use Rattle.distances.specs.Table.{at, inf, passes}
 use Rattle.automaton.specs.Built.{Built}
 use Rattle.search.specs.declared.Found.{Found}
@@ -32,18 +32,6 @@ pub record PlannedWalk (g : Graph) (F : List (List ℕ)) (s t : ℕ) (old : List
 abbrev pub Planned : Graph → List (List ℕ) → ℕ → ℕ → List ℕ → Found → List ℕ → Type 0
 Planned g F s t old (Walk weight hops′) new = PlannedWalk g F s t old weight hops′ new
 Planned g F s t old Nothing new = None g F s t × (new ≡ old)
-
--- There is one answer, and one area.
-pub planned-unique : (g : Graph) (F : List (List ℕ)) (s t : ℕ) (old : List ℕ) (r r′ : Found) (new new′ : List ℕ)
-    → Planned g F s t old r new → Planned g F s t old r′ new′ → (r ≡ r′) × (new ≡ new′)
-planned-unique g F s t old (Walk w h) (Walk w′ h′) new new′ p p′ =
-    let same = Best·unique (p .best) (p′ .best) in (
-      ap₂ Walk (p .weight-is ∙ ap (weightOf g) same ∙ sym (p′ .weight-is)) (p .hops-is ∙ ap hops same ∙ sym (p′ .hops-is)),
-      p .area-is ∙ ap (λ w. w ++ drop (length w) old) same ∙ sym (p′ .area-is),
-    )
-planned-unique g F s t old (Walk w h) Nothing new new′ p p′ = absurd (Best·not-None (p .best) (p′ .0))
-planned-unique g F s t old Nothing (Walk w h) new new′ p p′ = absurd (Best·not-None (p′ .best) (p .0))
-planned-unique g F s t old Nothing Nothing new new′ p p′ = (refl, p .1 ∙ sym (p′ .1))
 
 -- The tables are those of the graph g and of the automaton of F.
 pub record Prepared (g : Graph) (F : List (List ℕ)) (n m : ℕ) (weights steps marks latests : List ℕ) : Type 0 where

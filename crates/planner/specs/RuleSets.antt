@@ -1,0 +1,98 @@
+-- Two books that differ in the order of their rule sets have equal plans, for every batch, start and end.
+use Prim.Native.Nat.{ℕ}
+use mathlib.Core.Path.{_≡_, refl, sym, ap, ap₂, subst, _∙_}
+use mathlib.Core.Bool.{Bool, true, _&&_}
+use mathlib.Core.List.{List, _++_, List·Permᴰ}
+use mathlib.Core.Option.{Option, none, some}
+use borrow.Author.Tests.{le-leb}
+use lib.Dec.{leb, ltb}
+use lib.ListN.{length, drop}
+use Rattle.walks.specs.Graph.{Graph, Arc, fromArcs}
+use Rattle.walks.specs.Walk.{weightOf, hops}
+use Rattle.walks.specs.Avoid.{_⊆_}
+use Rattle.walks.specs.Best.{Best·unique, Best·not-None, Best·same-set}
+use Rattle.book.specs.declared.Refusal.{Refusal}
+use Rattle.book.specs.Refusal.{refusalOf}
+use Rattle.book.specs.Book.{Book, blank}
+use Rattle.book.specs.Reading.{accepted, reading, kept}
+use Rattle.rules.specs.Area.{areaSize, spelled, valid}
+use Rattle.rules.specs.Binding.{known}
+use Rattle.rules.specs.Operations.{Binding, binding, areaAfter}
+use Rattle.rules.specs.Laws.{same-set, Filled, bind-accepted}
+use Rattle.planner.specs.declared.Outcome.{Outcome}
+use Rattle.planner.specs.declared.Outcome.the-variants.{Walk, Nothing, Refused}
+use Rattle.planner.specs.Planning.{longest, Planned, PlanningOf, Planning}
+
+-- The same count and arcs, and the same rule sets in another order.
+pub record Reordered (b c : Book) : Type 0 where
+  pub counts : c .count ≡ b .count
+  pub arcs : c .arcs ≡ b .arcs
+  pub sets : List·Permᴰ (b .sets) (c .sets)
+
+-- Plans under two lists of the same forbidden paths are equal; with one list, this says that there is one plan.
+pub planned-same : (x : Option Refusal) (g : Graph) (F G : List (List ℕ)) → F ⊆ G → G ⊆ F → (s t : ℕ) (old : List ℕ) (r r′ : Outcome) (new new′ : List ℕ)
+    → Planned x g F s t old r new → Planned x g G s t old r′ new′ → (r ≡ r′) × (new ≡ new′)
+planned-same (some x) g F G more less s t old r r′ new new′ p p′ = (p .0 ∙ sym (p′ .0), p .1 ∙ sym (p′ .1))
+planned-same none g F G more less s t old (Walk w h) (Walk w′ h′) new new′ p p′ =
+    let same = Best·unique (Best·same-set more less (p .best)) (p′ .best) in (
+      ap₂ Walk (p .weight-is ∙ ap (weightOf g) same ∙ sym (p′ .weight-is)) (p .hops-is ∙ ap hops same ∙ sym (p′ .hops-is)),
+      p .area-is ∙ ap (λ w. w ++ drop (length w) old) same ∙ sym (p′ .area-is),
+    )
+planned-same none g F G more less s t old (Walk w h) Nothing new new′ p p′ = absurd (Best·not-None (Best·same-set more less (p .best)) (p′ .0))
+planned-same none g F G more less s t old Nothing (Walk w h) new new′ p p′ = absurd (Best·not-None (Best·same-set less more (p′ .best)) (p .0))
+planned-same none g F G more less s t old Nothing Nothing new new′ p p′ = (refl, p .1 ∙ sym (p′ .1))
+planned-same none g F G more less s t old (Refused x) r′ new new′ p p′ = absurd p
+planned-same none g F G more less s t old (Walk w h) (Refused x) new new′ p p′ = absurd p′
+planned-same none g F G more less s t old Nothing (Refused x) new new′ p p′ = absurd p′
+
+module _ (flags start end : ℕ) (old : List ℕ) where
+  -- the refusal in a book of n vertices, with the tests on the runs area as given
+  abbrev pub refusal : ℕ → Bool → Bool → Option Refusal
+  refusal n long valid =
+      refusalOf (record {
+        book = none;
+        areas = long && leb longest (length old);
+        endpoints = ltb start n && ltb end n;
+        valid = valid;
+        walk = true;
+        standing = true;
+        named = true;
+        room = true;
+      })
+
+  abbrev pub decided : ℕ → List Arc → Bool → Bool → List (List ℕ) → Outcome → List ℕ → Type 0
+  decided n arcs long valid F r new = Planned (refusal n long valid) (fromArcs n arcs) F start end old r new
+
+  -- planning after binding is planning under the known paths
+  module _ (s area : List ℕ) (F : List (List ℕ)) (f : Filled s flags area F) (r : Outcome) (new : List ℕ) where
+    abbrev pub after : List ℕ
+    after = areaAfter (binding s flags area) area
+
+    pub planned-known : Planning s after (length F) start end old r new → decided (f .book .count) (f .book .arcs) true true (known flags (f .book .sets)) r new
+    planned-known p =
+        let b = f .book in
+        subst (λ G. decided (b .count) (b .arcs) true true G r new) (f .spells ∙ f .paths)
+        (subst (λ y. decided (b .count) (b .arcs) true y (spelled (length F) after) r new) (f .validity)
+        (subst (λ x. decided (b .count) (b .arcs) x (valid (b .count) after (length F)) (spelled (length F) after) r new) (le-leb areaSize (length after) (f .long))
+        (subst (λ x. PlanningOf x after (length F) start end old r new) (f .read) p)))
+
+  -- Books that are read, bound and planned from: equal answers and equal bytes.
+  pub order-of-sets : (s s′ : List ℕ) (b c : Book) → reading s ≡ accepted b → reading s′ ≡ accepted c → Reordered b c
+      → (area area′ : List ℕ) (F G : List (List ℕ)) → binding s flags area ≡ Binding.bound F → binding s′ flags area′ ≡ Binding.bound G
+      → (r r′ : Outcome) (new new′ : List ℕ)
+      → Planning s (areaAfter (binding s flags area) area) (length F) start end old r new
+      → Planning s′ (areaAfter (binding s′ flags area′) area′) (length G) start end old r′ new′
+      → (r ≡ r′) × (new ≡ new′)
+  order-of-sets s s′ b c read read′ o area area′ F G is is′ r r′ new new′ p p′ =
+      let f = bind-accepted s flags area F is in
+      let f′ = bind-accepted s′ flags area′ G is′ in
+      let b-is : f .book ≡ b = ap (kept blank) (sym (f .read) ∙ read) in
+      let c-is : f′ .book ≡ c = ap (kept blank) (sym (f′ .read) ∙ read′) in
+      let q : decided (b .count) (b .arcs) true true (known flags (b .sets)) r new =
+      subst (λ x. decided (x .count) (x .arcs) true true (known flags (x .sets)) r new) b-is (planned-known s area F f r new p) in
+      let q′ : decided (c .count) (c .arcs) true true (known flags (c .sets)) r′ new′ =
+      subst (λ x. decided (x .count) (x .arcs) true true (known flags (x .sets)) r′ new′) c-is (planned-known s′ area′ G f′ r′ new′ p′) in
+      let (more, less) = same-set flags b c (o .sets) in
+      planned-same (refusal (b .count) true true) (fromArcs (b .count) (b .arcs)) (known flags (b .sets)) (known flags (c .sets)) more less start end old r r′ new new′ q
+      (subst (λ arcs. decided (b .count) arcs true true (known flags (c .sets)) r′ new′) (o .arcs)
+      (subst (λ n. decided n (c .arcs) true true (known flags (c .sets)) r′ new′) (o .counts) q′))

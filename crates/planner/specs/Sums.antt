@@ -1,0 +1,99 @@
+-- The settled sums of planning (01): what binding and then planning answer, for every lent area.
+use Prim.Native.Nat.{ℕ, _≤_}
+use mathlib.Core.Path.{_≡_, refl, sym, ap, ap₂, subst, _∙_}
+use mathlib.Core.Bool.{Bool, true, _&&_}
+use mathlib.Core.List.{List, [], _∷_, _++_, List·Memᴰ·not-nil}
+use mathlib.Core.Option.{Option, none}
+use borrow.Author.Tests.{le-leb}
+use lib.Dec.{ltb}
+use lib.ListN.{length, drop}
+use Rattle.walks.specs.Best.{None}
+use Rattle.book.specs.declared.Refusal.{Refusal}
+use Rattle.book.specs.Book.{Book, blank, graph}
+use Rattle.book.specs.Examples.{bytesA, bookA, book-A}
+use Rattle.book.specs.Reading.{accepted, reading, fields, kept}
+use Rattle.book.specs.Refusal.{refusalOf}
+use Rattle.automaton.specs.Sums.{Plan, marks-0, marks-1, marks-2, marks-3, back, stay, lower-vertex, fewer-hops}
+use Rattle.rules.specs.Binding.{covers, bound, known}
+use Rattle.rules.specs.Operations.{Binding, binding, areaAfter}
+use Rattle.rules.specs.Laws.{bind-accepted}
+use Rattle.planner.specs.declared.Outcome.{Outcome}
+use Rattle.planner.specs.declared.Outcome.the-variants.{Walk, Nothing}
+use Rattle.planner.specs.Planning.{longest, Planned, Planning}
+use Rattle.planner.specs.RuleSets.{refusal, decided, planned-known, planned-same}
+
+-- For every area that was bound for a batch and every area of 1,600 bytes or more for the walk, planning answers r, with w in the area's front.
+abbrev Gives : List ℕ → ℕ → ℕ → ℕ → Outcome → List ℕ → Type 0
+Gives s flags start end r w =
+    (area : List ℕ) (F : List (List ℕ)) → binding s flags area ≡ Binding.bound F → (old : List ℕ) → longest ≤ length old → (r′ : Outcome) (new : List ℕ)
+    → Planning s (areaAfter (binding s flags area) area) (length F) start end old r′ new → (r′ ≡ r) × (new ≡ w ++ drop (length w) old)
+
+module _ (s : List ℕ) (b : Book) (read : reading s ≡ accepted b) (flags start end : ℕ) (in-count : (ltb start (b .count) && ltb end (b .count)) ≡ true) where
+  -- the refusal by the area for the walk and by the endpoints: none here
+  abbrev asked : Bool → Bool → Option Refusal
+  asked x y = refusalOf (record { book = none; areas = x; endpoints = y; valid = true; walk = true; standing = true; named = true; room = true })
+
+  unrefused : (old : List ℕ) → longest ≤ length old → refusal flags start end old (b .count) true true ≡ none
+  unrefused old long = ap₂ asked (le-leb longest (length old) long) in-count
+
+  -- the answer that the definitions have is the one that is given
+  given : (r : Outcome) (w : List ℕ) → ((old : List ℕ) → Planned none (graph b) (known flags (b .sets)) start end old r (w ++ drop (length w) old)) → Gives s flags start end r w
+  given r w have area F is old long r′ new p =
+      let f = bind-accepted s flags area F is in
+      let b-is : f .book ≡ b = ap (kept blank) (sym (f .read) ∙ read) in
+      let q : decided flags start end old (b .count) (b .arcs) true true (known flags (b .sets)) r′ new =
+      subst (λ x. decided flags start end old (x .count) (x .arcs) true true (known flags (x .sets)) r′ new) b-is (planned-known flags start end old s area F f r′ new p) in
+      planned-same none (graph b) (known flags (b .sets)) (known flags (b .sets)) (λ _ m. m) (λ _ m. m) start end old r′ r new (w ++ drop (length w) old)
+      (subst (λ x. Planned x (graph b) (known flags (b .sets)) start end old r′ new) (unrefused old long) q)
+      (have old)
+
+  walk-given : (w : List ℕ) (n k : ℕ) → Plan (graph b) (known flags (b .sets)) start end w n k → Gives s flags start end (Walk n k) w
+  walk-given w n k p = given (Walk n k) w (λ old. record { walk = w; best = p .best; weight-is = sym (p .weighs); hops-is = sym (p .takes); area-is = refl })
+
+  none-given : None (graph b) (known flags (b .sets)) start end → Gives s flags start end Nothing []
+  none-given n = given Nothing [] (λ old. (n, refl))
+
+-- Two ways of one weight; and with an arc of that weight.
+abbrev ways : List ℕ
+ways =
+    0x01 ∷ 0x00 ∷ 0x01 ∷ 0x04
+    ∷ 0x02 ∷ 0x00 ∷ 0x06 ∷ 0x00 ∷ 0x01 ∷ 0x00 ∷ 0x00 ∷ 0x00 ∷ 0x64
+    ∷ 0x02 ∷ 0x00 ∷ 0x06 ∷ 0x01 ∷ 0x03 ∷ 0x00 ∷ 0x00 ∷ 0x00 ∷ 0x64
+    ∷ 0x02 ∷ 0x00 ∷ 0x06 ∷ 0x00 ∷ 0x02 ∷ 0x00 ∷ 0x00 ∷ 0x00 ∷ 0x64
+    ∷ 0x02 ∷ 0x00 ∷ 0x06 ∷ 0x02 ∷ 0x03 ∷ 0x00 ∷ 0x00 ∷ 0x00 ∷ 0x64
+    ∷ []
+
+abbrev shortcut : List ℕ
+shortcut = ways ++ (0x02 ∷ 0x00 ∷ 0x06 ∷ 0x00 ∷ 0x03 ∷ 0x00 ∷ 0x00 ∷ 0x00 ∷ 0xc8 ∷ [])
+
+ways-read : reading ways ≡ accepted (kept blank (reading ways))
+unfolding reading fields
+ways-read = refl
+
+shortcut-read : reading shortcut ≡ accepted (kept blank (reading shortcut))
+unfolding reading fields
+shortcut-read = refl
+
+pub record Sums : Type 0 where
+  pub marks-0 : Gives bytesA 0 0 3 (Walk 300 3) (0 ∷ 1 ∷ 2 ∷ 3 ∷ [])
+  pub marks-1 : Gives bytesA 1 0 3 (Walk 350 2) (0 ∷ 2 ∷ 3 ∷ [])
+  pub marks-2 : Gives bytesA 2 0 3 (Walk 300 3) (0 ∷ 1 ∷ 2 ∷ 3 ∷ [])
+  pub marks-3 : Gives bytesA 3 0 3 (Walk 450 5) (0 ∷ 1 ∷ 2 ∷ 1 ∷ 2 ∷ 3 ∷ [])
+  pub back : Gives bytesA 0 3 0 Nothing []
+  pub stay : Gives bytesA 0 3 3 (Walk 0 0) (3 ∷ [])
+  pub lower-vertex : Gives ways 0 0 3 (Walk 200 2) (0 ∷ 1 ∷ 3 ∷ [])
+  pub fewer-hops : Gives shortcut 0 0 3 (Walk 200 1) (0 ∷ 3 ∷ [])
+
+pub sums : Sums
+unfolding reading fields covers bound
+sums =
+    record {
+      marks-0 = walk-given bytesA bookA book-A 0 0 3 refl _ 300 3 marks-0;
+      marks-1 = walk-given bytesA bookA book-A 1 0 3 refl _ 350 2 marks-1;
+      marks-2 = walk-given bytesA bookA book-A 2 0 3 refl _ 300 3 marks-2;
+      marks-3 = walk-given bytesA bookA book-A 3 0 3 refl _ 450 5 marks-3;
+      back = none-given bytesA bookA book-A 0 3 0 refl back;
+      stay = walk-given bytesA bookA book-A 0 3 3 refl _ 0 0 (stay [] (λ r m. absurd (List·Memᴰ·not-nil m)));
+      lower-vertex = walk-given ways (kept blank (reading ways)) ways-read 0 0 3 refl _ 200 2 lower-vertex;
+      fewer-hops = walk-given shortcut (kept blank (reading shortcut)) shortcut-read 0 0 3 refl _ 200 1 fewer-hops;
+    }
