@@ -1,5 +1,6 @@
 // What the test programs share: a stream of cases, each after its length in four bytes (high byte first), and printing.
 ghost use Prim.Native.Nat.{_<_};
+ghost use mathlib.Core.Path.{_≡_};
 ghost use Rattle.cases.specs.Next.{FitsIn};
 use book::Refusal;
 use libc::STDIN_FILENO;
@@ -30,6 +31,7 @@ pub fn next_case(buffer: &mut [u8]) -> Next
 }
 
 pub fn wide(x: u8) -> usize
+    ensures { λ r. ⌜ r ≡ x ⌝ }
     ensures { λ r. ⌜ r < 256 ⌝ }
 {
     x as usize
