@@ -1,7 +1,7 @@
 -- Sums of 01 on reading, computed from the definition.
 use Prim.Native.Nat.{ℕ}
 use mathlib.Core.Path.{_≡_, refl}
-use mathlib.Core.List.{List, [], _∷_}
+use mathlib.Core.List.{List, [], _∷_, _++_}
 use Rattle.book.specs.declared.Refusal.the-variants.{Truncated, Value}
 use Rattle.book.specs.Book.{Book, allPaths, names, simple}
 use Rattle.book.specs.Reading.{accepted, refused, reading, fields, addPath}
@@ -43,6 +43,48 @@ bookA =
 pub book-A : reading bytesA ≡ accepted bookA
 unfolding reading fields names simple addPath allPaths
 book-A = refl
+
+-- Two ways of one weight from 0 to 3; and with an arc of that weight.
+abbrev pub bytesWays : List ℕ
+bytesWays =
+    0x01 ∷ 0x00 ∷ 0x01 ∷ 0x04
+    ∷ 0x02 ∷ 0x00 ∷ 0x06 ∷ 0x00 ∷ 0x01 ∷ 0x00 ∷ 0x00 ∷ 0x00 ∷ 0x64
+    ∷ 0x02 ∷ 0x00 ∷ 0x06 ∷ 0x01 ∷ 0x03 ∷ 0x00 ∷ 0x00 ∷ 0x00 ∷ 0x64
+    ∷ 0x02 ∷ 0x00 ∷ 0x06 ∷ 0x00 ∷ 0x02 ∷ 0x00 ∷ 0x00 ∷ 0x00 ∷ 0x64
+    ∷ 0x02 ∷ 0x00 ∷ 0x06 ∷ 0x02 ∷ 0x03 ∷ 0x00 ∷ 0x00 ∷ 0x00 ∷ 0x64
+    ∷ []
+
+abbrev pub bookWays : Book
+bookWays =
+    record {
+      count = 4;
+      arcs =
+          record { tail = 0; head = 1; weight = 100 }
+          ∷ record { tail = 1; head = 3; weight = 100 }
+          ∷ record { tail = 0; head = 2; weight = 100 }
+          ∷ record { tail = 2; head = 3; weight = 100 }
+          ∷ [];
+      sets = [];
+    }
+
+abbrev pub bytesShortcut : List ℕ
+bytesShortcut = bytesWays ++ (0x02 ∷ 0x00 ∷ 0x06 ∷ 0x00 ∷ 0x03 ∷ 0x00 ∷ 0x00 ∷ 0x00 ∷ 0xc8 ∷ [])
+
+abbrev pub bookShortcut : Book
+bookShortcut =
+    record {
+      count = 4;
+      arcs = bookWays .arcs ++ (record { tail = 0; head = 3; weight = 200 } ∷ []);
+      sets = [];
+    }
+
+pub book-ways : reading bytesWays ≡ accepted bookWays
+unfolding reading fields
+book-ways = refl
+
+pub book-shortcut : reading bytesShortcut ≡ accepted bookShortcut
+unfolding reading fields
+book-shortcut = refl
 
 pub count-64 : reading (0x01 ∷ 0x00 ∷ 0x01 ∷ 0x40 ∷ []) ≡ accepted (record { count = 64; arcs = []; sets = [] })
 unfolding reading fields

@@ -10,8 +10,8 @@ use lib.ListN.{length, drop}
 use Rattle.walks.specs.Best.{None}
 use Rattle.book.specs.declared.Refusal.{Refusal}
 use Rattle.book.specs.Book.{Book, blank, graph}
-use Rattle.book.specs.Examples.{bytesA, bookA, book-A}
-use Rattle.book.specs.Reading.{accepted, reading, fields, kept}
+use Rattle.book.specs.Examples.{bytesA, bookA, book-A, bytesWays, bookWays, book-ways, bytesShortcut, bookShortcut, book-shortcut}
+use Rattle.book.specs.Reading.{accepted, reading, kept}
 use Rattle.book.specs.Refusal.{refusalOf}
 use Rattle.automaton.specs.Sums.{Plan, marks-0, marks-1, marks-2, marks-3, back, stay, lower-vertex, fewer-hops}
 use Rattle.rules.specs.Binding.{covers, bound, known}
@@ -53,27 +53,6 @@ module _ (s : List ℕ) (b : Book) (read : reading s ≡ accepted b) (flags star
   none-given : None (graph b) (known flags (b .sets)) start end → Gives s flags start end Nothing []
   none-given n = given Nothing [] (λ old. (n, refl))
 
--- Two ways of one weight; and with an arc of that weight.
-abbrev ways : List ℕ
-ways =
-    0x01 ∷ 0x00 ∷ 0x01 ∷ 0x04
-    ∷ 0x02 ∷ 0x00 ∷ 0x06 ∷ 0x00 ∷ 0x01 ∷ 0x00 ∷ 0x00 ∷ 0x00 ∷ 0x64
-    ∷ 0x02 ∷ 0x00 ∷ 0x06 ∷ 0x01 ∷ 0x03 ∷ 0x00 ∷ 0x00 ∷ 0x00 ∷ 0x64
-    ∷ 0x02 ∷ 0x00 ∷ 0x06 ∷ 0x00 ∷ 0x02 ∷ 0x00 ∷ 0x00 ∷ 0x00 ∷ 0x64
-    ∷ 0x02 ∷ 0x00 ∷ 0x06 ∷ 0x02 ∷ 0x03 ∷ 0x00 ∷ 0x00 ∷ 0x00 ∷ 0x64
-    ∷ []
-
-abbrev shortcut : List ℕ
-shortcut = ways ++ (0x02 ∷ 0x00 ∷ 0x06 ∷ 0x00 ∷ 0x03 ∷ 0x00 ∷ 0x00 ∷ 0x00 ∷ 0xc8 ∷ [])
-
-ways-read : reading ways ≡ accepted (kept blank (reading ways))
-unfolding reading fields
-ways-read = refl
-
-shortcut-read : reading shortcut ≡ accepted (kept blank (reading shortcut))
-unfolding reading fields
-shortcut-read = refl
-
 pub record Sums : Type 0 where
   pub marks-0 : Gives bytesA 0 0 3 (Walk 300 3) (0 ∷ 1 ∷ 2 ∷ 3 ∷ [])
   pub marks-1 : Gives bytesA 1 0 3 (Walk 350 2) (0 ∷ 2 ∷ 3 ∷ [])
@@ -81,11 +60,11 @@ pub record Sums : Type 0 where
   pub marks-3 : Gives bytesA 3 0 3 (Walk 450 5) (0 ∷ 1 ∷ 2 ∷ 1 ∷ 2 ∷ 3 ∷ [])
   pub back : Gives bytesA 0 3 0 Nothing []
   pub stay : Gives bytesA 0 3 3 (Walk 0 0) (3 ∷ [])
-  pub lower-vertex : Gives ways 0 0 3 (Walk 200 2) (0 ∷ 1 ∷ 3 ∷ [])
-  pub fewer-hops : Gives shortcut 0 0 3 (Walk 200 1) (0 ∷ 3 ∷ [])
+  pub lower-vertex : Gives bytesWays 0 0 3 (Walk 200 2) (0 ∷ 1 ∷ 3 ∷ [])
+  pub fewer-hops : Gives bytesShortcut 0 0 3 (Walk 200 1) (0 ∷ 3 ∷ [])
 
 pub sums : Sums
-unfolding reading fields covers bound
+unfolding covers bound
 sums =
     record {
       marks-0 = walk-given bytesA bookA book-A 0 0 3 refl _ 300 3 marks-0;
@@ -94,6 +73,6 @@ sums =
       marks-3 = walk-given bytesA bookA book-A 3 0 3 refl _ 450 5 marks-3;
       back = none-given bytesA bookA book-A 0 3 0 refl back;
       stay = walk-given bytesA bookA book-A 0 3 3 refl _ 0 0 (stay [] (λ r m. absurd (List·Memᴰ·not-nil m)));
-      lower-vertex = walk-given ways (kept blank (reading ways)) ways-read 0 0 3 refl _ 200 2 lower-vertex;
-      fewer-hops = walk-given shortcut (kept blank (reading shortcut)) shortcut-read 0 0 3 refl _ 200 1 fewer-hops;
+      lower-vertex = walk-given bytesWays bookWays book-ways 0 0 3 refl _ 200 2 lower-vertex;
+      fewer-hops = walk-given bytesShortcut bookShortcut book-shortcut 0 0 3 refl _ 200 1 fewer-hops;
     }

@@ -21,6 +21,16 @@ use distances::INF;
 use distances::link;
 use distances::settle;
 
+// How many states an automaton has at most, and the edges from them; and how many it has for a usual book. Work tables are
+// cleared before use, and to clear the large ones would take longer than a usual search.
+const STATES: usize = 1600;
+
+const EDGES: usize = 102400;
+
+const USUAL_STATES: usize = 160;
+
+const USUAL_EDGES: usize = 10240;
+
 // Whether there is an arc of that weight, and the lowest bit of the marks blocks nothing.
 pub fn is_open(weight: u32, marks: u64) -> bool
     ensures { λ r. ⌜ r ≡ not (eqb weight noArc) && eqb (marks % 2) 0 ⌝ }
@@ -177,7 +187,7 @@ fn distances_to(
 }
 
 // The same with work tables of its own.
-pub fn distances(
+fn all_distances(
     n: usize,
     end: u8,
     weights: &[u32; 4096],
@@ -190,12 +200,12 @@ pub fn distances(
     requires { ⌜ length (now table) ≤ 1600 ⌝ }
     ensures { λ _. ⌜ now (table .exit) ≡ passes (stateEdges (now (weights .entry)) (now (steps .entry)) (now (blocked .entry)) (now (latest .entry)) n (length (now (table .entry)))) (length (now (table .entry))) (targets (now (latest .entry)) end (length (now (table .entry)))) ⌝ }
 {
-    let mut tails = [0u16; 102400];
-    let mut heads = [0u16; 102400];
-    let mut costs = [0u32; 102400];
-    let mut first = [0u32; 1600];
-    let mut next = [0u32; 102400];
-    let mut seen = [INF; 1600];
+    let mut tails = [0u16; EDGES];
+    let mut heads = [0u16; EDGES];
+    let mut costs = [0u32; EDGES];
+    let mut first = [0u32; STATES];
+    let mut next = [0u32; EDGES];
+    let mut seen = [INF; STATES];
     distances_to(
         n,
         end,
@@ -211,4 +221,62 @@ pub fn distances(
         &mut seen,
         table,
     );
+}
+
+// The same for a usual number of states.
+fn usual_distances(
+    n: usize,
+    end: u8,
+    weights: &[u32; 4096],
+    steps: &[u16],
+    blocked: &[u64],
+    latest: &[u8],
+    table: &mut [u64],
+)
+    requires { ⌜ Fits n (length (now table)) (now weights) (now steps) (now blocked) (now latest) ⌝ }
+    requires { ⌜ length (now table) ≤ 160 ⌝ }
+    ensures { λ _. ⌜ now (table .exit) ≡ passes (stateEdges (now (weights .entry)) (now (steps .entry)) (now (blocked .entry)) (now (latest .entry)) n (length (now (table .entry)))) (length (now (table .entry))) (targets (now (latest .entry)) end (length (now (table .entry)))) ⌝ }
+{
+    let mut tails = [0u16; USUAL_EDGES];
+    let mut heads = [0u16; USUAL_EDGES];
+    let mut costs = [0u32; USUAL_EDGES];
+    let mut first = [0u32; USUAL_STATES];
+    let mut next = [0u32; USUAL_EDGES];
+    let mut seen = [INF; USUAL_STATES];
+    distances_to(
+        n,
+        end,
+        weights,
+        steps,
+        blocked,
+        latest,
+        &mut tails,
+        &mut heads,
+        &mut costs,
+        &mut first,
+        &mut next,
+        &mut seen,
+        table,
+    );
+}
+
+// The same with the work tables that suffice.
+pub fn distances(
+    n: usize,
+    end: u8,
+    weights: &[u32; 4096],
+    steps: &[u16],
+    blocked: &[u64],
+    latest: &[u8],
+    table: &mut [u64],
+)
+    requires { ⌜ Fits n (length (now table)) (now weights) (now steps) (now blocked) (now latest) ⌝ }
+    requires { ⌜ length (now table) ≤ 1600 ⌝ }
+    ensures { λ _. ⌜ now (table .exit) ≡ passes (stateEdges (now (weights .entry)) (now (steps .entry)) (now (blocked .entry)) (now (latest .entry)) n (length (now (table .entry)))) (length (now (table .entry))) (targets (now (latest .entry)) end (length (now (table .entry)))) ⌝ }
+{
+    if table.len() <= USUAL_STATES {
+        usual_distances(n, end, weights, steps, blocked, latest, table);
+    } else {
+        all_distances(n, end, weights, steps, blocked, latest, table);
+    }
 }

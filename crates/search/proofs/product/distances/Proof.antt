@@ -1,35 +1,13 @@
--- `planner::product::distances` meets its contract. Assumes nothing.
-use Prim.Native.Nat.{_*_, _≤_}
-use native.Mathlib.Omega.{arith}
-use lib.ListN.{length}
-use Rattle.search.specs.Scratch.{blank-room}
+-- `search::product::distances` meets its contract. Assumes nothing.
 use borrow.Author.Needs.{needs}
 use Rattle.search.proofs.product.distances.Statement.{statement}
 use Rattle.search.proofs.product.distances.Tie as tie
 
-slice-aggregate-distances-to : tie.Need-slice-aggregate-distances-to
-slice-aggregate-distances-to c = search needs
+usual-distances-requires : tie.Need-usual-distances-requires
+usual-distances-requires c κs = search needs
 
-slice-aggregate-distances-to-2 : tie.Need-slice-aggregate-distances-to-2
-slice-aggregate-distances-to-2 c = search needs
-
-slice-aggregate-distances-to-3 : tie.Need-slice-aggregate-distances-to-3
-slice-aggregate-distances-to-3 c = search needs
-
-slice-aggregate-distances-to-4 : tie.Need-slice-aggregate-distances-to-4
-slice-aggregate-distances-to-4 c = search needs
-
-slice-aggregate-distances-to-5 : tie.Need-slice-aggregate-distances-to-5
-slice-aggregate-distances-to-5 c = search needs
-
-slice-aggregate-distances-to-6 : tie.Need-slice-aggregate-distances-to-6
-slice-aggregate-distances-to-6 c = search needs
-
-distances-to-requires : tie.Need-distances-to-requires
-distances-to-requires c κs =
-    let s = c .before .before .before .before .before .before .before .before .before .before .before in
-    let few : length (s .args .table .now) * 64 ≤ 102400 = omega (arith, s .pre .1) in
-    (s .pre .0, (s .pre .1, blank-room (length (s .args .table .now)) 102400 1600 few (s .pre .1)))
+all-distances-requires : tie.Need-all-distances-requires
+all-distances-requires c κs = search needs
 
 same-length : tie.Need-same-length
 same-length c = search needs
@@ -37,16 +15,19 @@ same-length c = search needs
 returns : tie.Need-returns
 returns c = search needs
 
+same-length-2 : tie.Need-same-length-2
+same-length-2 c = search needs
+
+returns-2 : tie.Need-returns-2
+returns-2 c = search needs
+
 pub distances-spec : {M : Type 1} → statement M
 distances-spec =
     tie.close
     (tie.spec
-    slice-aggregate-distances-to
-    slice-aggregate-distances-to-2
-    slice-aggregate-distances-to-3
-    slice-aggregate-distances-to-4
-    slice-aggregate-distances-to-5
-    slice-aggregate-distances-to-6
-    distances-to-requires
+    usual-distances-requires
+    all-distances-requires
     same-length
-    returns)
+    returns
+    same-length-2
+    returns-2)

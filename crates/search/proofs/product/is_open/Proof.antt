@@ -1,4 +1,4 @@
--- `planner::product::is_open` meets its contract. Assumes nothing.
+-- `search::product::is_open` meets its contract. Assumes nothing.
 use borrow.Author.Tests.{eq-eqb, ne-eqb}
 use Rattle.book.specs.Tables.{noArc}
 use Rattle.search.proofs.product.is_open.Statement.{statement}

@@ -1,4 +1,4 @@
--- `planner::route::best_walk` meets its contract. Assumes nothing.
+-- `search::route::best_walk` meets its contract. Assumes nothing.
 use mathlib.Core.Path.{sym}
 use Rattle.search.specs.Plan.{front-length, prepared-front}
 use borrow.Author.Needs.{needs}

@@ -1,4 +1,4 @@
--- `planner::route::next` meets its contract. Assumes nothing.
+-- `search::route::next` meets its contract. Assumes nothing.
 use mathlib.Core.Path.{ap}
 use native.Mathlib.Omega.{arith}
 use lib.Count.{trailingZeros, trailing-le}

@@ -1,4 +1,4 @@
--- `planner::route::plan_in` meets its contract. Assumes nothing.
+-- `search::route::plan_in` meets its contract. Assumes nothing.
 use native.Mathlib.Omega.{arith}
 use Rattle.search.specs.Fits.{entry-near}
 use Rattle.search.specs.Plan.{prepared-fits, prepared-start, prepared-guiding, start-short, planned-none, planned-walk}
