@@ -54,21 +54,6 @@ module _ (p : List ℕ) where
       ∙ sym (append-assoc (replicate (length (s .paths)) k) _ _)
       ∙ ap (λ j. replicate (length (s .paths)) k ++ ownersFrom (suc k) (s′ ∷ ss) ++ (j ∷ [])) (omega arith)
 
-pub length-owners : (k : ℕ) (ss : List Book·RuleSet) → length (ownersFrom k ss) ≡ length (allPaths ss)
-unfolding ownersFrom allPaths
-length-owners k [] = refl
-length-owners k (s ∷ ss) = simp (length-append, length-replicate, length-owners (suc k) ss)
-
-pub entries-path : (ps : List (List ℕ)) (p : List ℕ) → entries (ps ++ (p ∷ [])) ≡ entries ps ++ entry p
-unfolding entries
-entries-path [] p = append-nil _
-entries-path (q ∷ ps) p = ap (λ l. entry q ++ l) (entries-path ps p) ∙ sym (append-assoc (entry q) _ _)
-
-pub length-entries : (ps : List (List ℕ)) → All (λ p. length p ≤ 8) ps → length (entries ps) ≡ length ps * 9
-unfolding entries
-length-entries [] h = refl
-length-entries (p ∷ ps) h = simp (length-append, length-replicate, length-entries ps (h .1)) (omega (arith, h .0))
-
 -- ---- the tables
 pub flags-after-set : (t : List ℕ) (k x f : ℕ) (ss : List Book·RuleSet) → length ss < 16 → t ≡ flagTable ss → k ≡ length ss → x ≡ f
     → set t k x ≡ flagTable (ss ++ bare f)

@@ -14,9 +14,6 @@ zeros n = replicate n 0
 zeros-split : (n m k : ℕ) → n ≡ m + k → zeros n ≡ zeros m ++ zeros k
 zeros-split n m k e = ap zeros e ∙ sym (replicate-append-replicate m k 0)
 
-pub length-padded : (n : ℕ) (l : List ℕ) → length l ≤ n → length (padded n l) ≡ n
-length-padded n l h = simp (length-append, length-replicate) (omega arith)
-
 -- the element after the list
 pub padded-set : (n : ℕ) (l : List ℕ) (x : ℕ) → length l < n → set (padded n l) (length l) x ≡ padded n (l ++ (x ∷ []))
 padded-set n l x h =

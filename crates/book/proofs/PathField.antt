@@ -16,8 +16,9 @@ use Rattle.book.specs.Book.{Book, RuleSet, All, IsPath, WellFormed, allP
 use Rattle.book.specs.BookLaws.{all-map, paths-path}
 use Rattle.book.specs.Reading.{Reading, answer, addPath, endAt, lengthAt, pathAt, taken, kept, proper}
 use Rattle.book.specs.Tables.{ownersFrom, entries, padded, ownerTable, pathTable}
-use Rattle.book.proofs.Added.{counts-path, owners-path, length-owners, entries-path, length-entries}
-use Rattle.book.proofs.Padded.{length-padded, padded-set, padded-entry}
+use Rattle.book.specs.EntryLaws.{length-padded, length-owners, entries-snoc, length-entries}
+use Rattle.book.proofs.Added.{counts-path, owners-path}
+use Rattle.book.proofs.Padded.{padded-set, padded-entry}
 use Rattle.book.proofs.Taken.{taken-value, taken-many, taken-whole}
 
 -- the owner right after the others'
@@ -40,7 +41,7 @@ entry-added e k n ss p some-set held count room short size small =
     ap (λ l. paste (set l (k * 9) n) (k * 9 + 1) p n) held
     ∙ ap₂ (λ j m. paste (set (padded 2304 all) j m) (j + 1) p m) length-all size
     ∙ padded-entry 2304 all p (omega arith) (omega arith)
-    ∙ ap (padded 2304) (sym (entries-path (allPaths ss) p) ∙ ap entries (sym (paths-path p ss some-set)))
+    ∙ ap (padded 2304) (sym (entries-snoc (allPaths ss) p) ∙ ap entries (sym (paths-path p ss some-set)))
 
 module _ (c : Counts) (s : List ℕ) (b : Book) (at : ℕ) (so-far : c ≡ counts b) (w : WellFormed b) (o e : List ℕ) (owners-held : o ≡ ownerTable (b .sets)) (paths-held : e ≡ pathTable (b .sets)) where
   value-is : (x : Bool) → simple (c .vertices) (pathAt s at) ≡ x → proper Path s b at ≡ x

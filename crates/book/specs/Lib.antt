@@ -5,4 +5,5 @@ pub mod Tables
 pub mod RefusalLaws
 pub mod BookLaws
 pub mod TableLaws
+pub mod EntryLaws
 pub mod Examples

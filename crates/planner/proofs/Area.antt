@@ -7,19 +7,18 @@ use native.Mathlib.Omega.{arith}
 use lib.ListN.{length, drop, replicate, take-append-drop, length-replicate, length-map}
 use Rattle.book.specs.Book.{All, IsPath}
 use Rattle.book.specs.BookLaws.{all-map}
-use Rattle.book.specs.Tables.{entries, entry}
+use Rattle.book.specs.Tables.{entries}
+use Rattle.book.specs.EntryLaws.{Short, entries-induction}
 use Rattle.rules.specs.Area.{areaSize, spelled, blocks}
-use Rattle.rules.specs.AreaLaws.{Short, length-blocks}
+use Rattle.rules.specs.AreaLaws.{length-blocks}
 use Rattle.rules.specs.ValidLaws.{Valid}
 use Rattle.automaton.specs.Area.{Spells, Bounded, Given, spells-nil, spells-cons}
 
 -- entries spell their paths, whatever stands after them
 spells-entries : (F : List (List ℕ)) (rest : List ℕ) → All Short F → Spells (entries F ++ rest) (length F) F
-unfolding entries
-spells-entries [] rest h = spells-nil rest
-spells-entries (p ∷ F) rest h =
-    rw (append-assoc (entry p) (entries F) rest)
-    (spells-cons p (replicate (8 - length p) 0) (entries F ++ rest) (length F) F (omega (arith, length-replicate {A = ℕ} (8 - length p) 0, h .0)) (spells-entries F rest (h .1)))
+spells-entries F rest short =
+    entries-induction (λ l G. Spells l (length G) G) rest (spells-nil rest)
+    (λ p G l h s. spells-cons p (replicate (8 - length p) 0) l (length G) G (omega (arith, length-replicate {A = ℕ} (8 - length p) 0)) s) F short
 
 all-member : {A : Type 0} (P : A → Type 0) (xs : List A) → All P xs → (x : A) → List·Memᴰ x xs → P x
 all-member P [] h x m = absurd (List·Memᴰ·not-nil m)

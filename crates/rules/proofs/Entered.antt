@@ -10,7 +10,8 @@ use Rattle.book.specs.BookLaws.{all-snoc}
 use Rattle.book.specs.Tables.{padded, entry, entries}
 use Rattle.rules.specs.Binding.{member}
 use Rattle.rules.specs.Area.{areaSize, written, blocks}
-use Rattle.rules.specs.AreaLaws.{Short, padded-zeros, padded-paste, length-padded, length-entry, entries-snoc, length-entries, entry-at, member-entry, blocks-entries}
+use Rattle.book.specs.EntryLaws.{Short, length-padded, length-entry, entries-snoc, length-entries}
+use Rattle.rules.specs.AreaLaws.{padded-zeros, padded-paste, entry-at, member-entry, blocks-entries}
 
 module _ (F : List (List ℕ)) (short : All Short F) where
   pub length-written : length F ≤ 256 → length (written F) ≡ areaSize

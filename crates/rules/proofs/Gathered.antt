@@ -13,7 +13,8 @@ use Rattle.book.specs.BookLaws.{all-snoc}
 use Rattle.book.specs.Tables.{entry, entries, flagsOf, ownersFrom, ownerTable}
 use Rattle.rules.specs.Binding.{covers, bound, member, add, known}
 use Rattle.rules.specs.Area.{areaSize, written, blocks}
-use Rattle.rules.specs.AreaLaws.{Short, entry-at, member-entry}
+use Rattle.book.specs.EntryLaws.{Short, length-owners}
+use Rattle.rules.specs.AreaLaws.{entry-at, member-entry}
 use Rattle.rules.specs.Listed.{Listed}
 use Rattle.rules.proofs.Entered.{blocks-written, entry-entered}
 
@@ -80,11 +81,6 @@ zeros-after [] (suc m) zero = refl
 zeros-after [] (suc m) (suc i) = zeros-after [] m i
 zeros-after (x ∷ l) m zero = refl
 zeros-after (x ∷ l) m (suc i) = zeros-after l m i
-
-pub length-owners : (k : ℕ) (ss : List RuleSet) → length (ownersFrom k ss) ≡ length (allPaths ss)
-unfolding ownersFrom allPaths
-length-owners k [] = refl
-length-owners k (s ∷ ss) = simp (length-append, length-replicate, length-owners (suc k) ss)
 
 pub all-at : (P : List ℕ → Type 0) (F : List (List ℕ)) (k : ℕ) → All P F → k < length F → P (getD F k [])
 all-at P [] k h l = absurd (omega arith)

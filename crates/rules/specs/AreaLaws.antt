@@ -9,13 +9,10 @@ use lib.ListN.{length, getD, take, drop, replicate, length-append, length-replic
 use lib.Seq.{paste, slice, take-at, drop-at, take-append-seam, drop-append-add, drop-drop, take-add, take-take, getD-take, getD-drop, length-take-le}
 use Rattle.book.specs.Book.{All}
 use Rattle.book.specs.Tables.{padded, entry, entries}
+use Rattle.book.specs.EntryLaws.{Short, length-entry}
 use Rattle.rules.specs.Binding.{member}
 use Rattle.rules.specs.Area.{blocks, pathOf, spelled}
 use Rattle.rules.specs.Sets.{same-iff}
-
--- A path that an entry has room for.
-abbrev pub Short : List ℕ → Type 0
-Short p = length p ≤ 8
 
 -- ---- parts of lists
 module _ (l : List ℕ) (at n : ℕ) where
@@ -50,29 +47,9 @@ padded-paste n l x y h =
     ∙ ap (λ z. l ++ x ++ z)
     (drop-append-add l (zeros (n - length l)) (length x) ∙ drop-zeros (length x) (n - length l) (n - length (l ++ x)) (simp length-append (omega arith)))
 
-pub length-padded : (n : ℕ) (l : List ℕ) → length l ≤ n → length (padded n l) ≡ n
-length-padded n l h = simp (length-append, length-replicate) (omega arith)
-
 -- ---- entries
-pub length-entry : (p : List ℕ) → Short p → length (entry p) ≡ 9
-length-entry p h = simp (length-append, length-replicate) (omega arith)
-
 pub path-of-entry : (p : List ℕ) → pathOf (entry p) ≡ p
 path-of-entry p = take-append-seam p _
-
-pub entries-append : (F G : List (List ℕ)) → entries (F ++ G) ≡ entries F ++ entries G
-unfolding entries
-entries-append [] G = refl
-entries-append (p ∷ F) G = ap (λ l. entry p ++ l) (entries-append F G) ∙ sym (append-assoc (entry p) (entries F) (entries G))
-
-pub entries-snoc : (F : List (List ℕ)) (p : List ℕ) → entries (F ++ (p ∷ [])) ≡ entries F ++ entry p
-unfolding entries
-entries-snoc F p = entries-append F (p ∷ []) ∙ ap (λ l. entries F ++ l) (append-nil (entry p))
-
-pub length-entries : (F : List (List ℕ)) → All Short F → length (entries F) ≡ length F * 9
-unfolding entries
-length-entries [] h = refl
-length-entries (p ∷ F) h = length-append (entry p) (entries F) ∙ omega (arith, length-entry p (h .0), length-entries F (h .1))
 
 -- the entry at an index
 pub entry-at : (F : List (List ℕ)) (rest : List ℕ) (k : ℕ) → All Short F → k < length F → take 9 (drop (k * 9) (entries F ++ rest)) ≡ entry (getD F k [])

@@ -8,7 +8,7 @@ use lib.ListN.{length, length-append}
 use Rattle.book.specs.Book.{RuleSet, Book, All, IsPath, WellFormed, allPaths}
 use Rattle.book.specs.BookLaws.{all-map}
 use Rattle.rules.specs.Binding.{applies, bound, known, once}
-use Rattle.rules.specs.AreaLaws.{Short}
+use Rattle.book.specs.EntryLaws.{Short}
 use Rattle.rules.specs.Sets.{distinct-once, distinct-length, distinct-all}
 
 module _ (P : List ℕ → Type 0) where

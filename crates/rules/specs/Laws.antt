@@ -21,7 +21,7 @@ use Rattle.rules.specs.declared.Checked.{Checked}
 use Rattle.rules.specs.declared.Checked.the-variants.{Clear}
 use Rattle.rules.specs.Binding.{applies, bound, known, once}
 use Rattle.rules.specs.Area.{areaSize, written, spelled, valid}
-use Rattle.rules.specs.AreaLaws.{length-padded, length-entries}
+use Rattle.book.specs.EntryLaws.{length-padded, length-entries}
 use Rattle.rules.specs.Checking.{checkable, occurrence}
 use Rattle.rules.specs.Operations.{refusalIn, bookIn, tests, Binding, outcome, bindingOf, binding, areaAfter, verdict, checkingOf, checking}
 use Rattle.rules.specs.Sets.{listed→distinct, distinct→listed}

@@ -5,7 +5,7 @@ use mathlib.Core.Path.{_≡_}
 use lib.ListN.{length}
 use Rattle.book.specs.Book.{RuleSet, All, allPaths}
 use Rattle.book.specs.Tables.{flagTable, ownerTable, pathTable}
-use Rattle.rules.specs.AreaLaws.{Short}
+use Rattle.book.specs.EntryLaws.{Short}
 
 pub record Listed (ss : List RuleSet) (needed owners entries : List ℕ) (paths : ℕ) : Type 0 where
   pub short : All Short (allPaths ss)

@@ -16,7 +16,8 @@ use Rattle.book.specs.Tables.{entry, entries}
 use Rattle.lists.specs.Test.{and-true}
 use Rattle.rules.specs.Binding.{once}
 use Rattle.rules.specs.Area.{areaSize, written, blocks, pathOf, spelled, isEntry, valid}
-use Rattle.rules.specs.AreaLaws.{Short, length-padded, length-entries, path-of-entry, blocks-entries, spelled-entries}
+use Rattle.book.specs.EntryLaws.{Short, length-padded, length-entries}
+use Rattle.rules.specs.AreaLaws.{path-of-entry, blocks-entries, spelled-entries}
 use Rattle.rules.specs.Sets.{same-true, true-same}
 
 -- What a valid area holds: at most 256 different paths by the book's rules, and nothing else.
