@@ -47,7 +47,7 @@ pub fn plan(
 }
 
 // The same in a book that has been read.
-fn plan_in(
+pub fn plan_in(
     weights: &[u32; 4096],
     vertices: usize,
     paths: &[u8],

@@ -7,14 +7,14 @@ mod area;
 mod gather;
 mod walk;
 
-use area::copy;
+pub use area::copy;
 pub use area::valid;
 use book::Answer;
 use book::NO_ARC;
 use book::Refusal;
 use gather::gather;
-use walk::is_walk;
-use walk::search;
+pub use walk::is_walk;
+pub use walk::search;
 
 // How many bytes the runs area has.
 pub const AREA: usize = 2304;

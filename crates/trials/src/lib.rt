@@ -1,10 +1,25 @@
-// The trials of a batch: what their record holds.
+// The trials of a batch (01, 'Trials'): begin, and what the oracle (01: the lab) reports.
+mod begin;
+mod judge;
+mod record;
+mod replay;
+mod report;
 
-// The record of 01, 'Trials'. The stage is 0 while a walk (01: line-up) stands, 1 once it has passed, 2 where there is none.
+pub use begin::begin;
+use book::Refusal;
+pub use replay::is_report;
+pub use replay::make;
+pub use replay::record_of;
+pub use replay::replay;
+pub use replay::report_end;
+pub use report::report_failed;
+pub use report::report_passed;
+
+// The record of 01. The stage is 0 while a walk (01: line-up) stands, 1 once it has passed, 2 where there is none.
 pub struct Record {
     pub stage: usize,
-    pub start: usize,
-    pub end: usize,
+    pub start: u8,
+    pub end: u8,
     // how many forbidden paths (01: runs) are known, and how many were at the start
     pub known: usize,
     pub first: usize,
@@ -14,4 +29,15 @@ pub struct Record {
     // the standing walk's weight and its number of vertices
     pub litres: u64,
     pub length: usize,
+}
+
+pub enum Begun {
+    Record(Record),
+    Refused(Refusal),
+}
+
+// A report gives the next record, or is refused and hands the record back as it came.
+pub enum Reported {
+    Accepted(Record),
+    Refused(Refusal, Record),
 }

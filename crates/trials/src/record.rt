@@ -1,0 +1,59 @@
+// The steps of the record: each takes it by value and hands the next one back.
+use crate::Record;
+use planner::Outcome;
+
+impl Record {
+    // The record of trials that begin with that many forbidden paths known, before there is a plan.
+    pub fn new(start: u8, end: u8, known: usize) -> Record {
+        Record {
+            stage: 2,
+            start,
+            end,
+            known,
+            first: known,
+            failed: 0,
+            passed: 0,
+            litres: 0,
+            length: 0,
+        }
+    }
+
+    // A walk stands.
+    pub fn standing(mut self, weight: u64, length: usize) -> Record {
+        self.stage = 0;
+        self.litres = weight;
+        self.length = length;
+        self
+    }
+
+    // There is no walk.
+    pub fn nothing(mut self) -> Record {
+        self.stage = 2;
+        self.litres = 0;
+        self.length = 0;
+        self
+    }
+
+    // The plan anew.
+    pub fn replanned(self, outcome: Outcome) -> Record {
+        match outcome {
+            Outcome::Walk { weight, hops } => self.standing(weight, hops + 1),
+            Outcome::Nothing => self.nothing(),
+            Outcome::Refused(_) => self.nothing(),
+        }
+    }
+
+    // The standing walk has passed.
+    pub fn passed(mut self) -> Record {
+        self.stage = 1;
+        self.passed = 1;
+        self
+    }
+
+    // The standing walk has failed: one more forbidden path is known.
+    pub fn failed(mut self) -> Record {
+        self.known += 1;
+        self.failed += 1;
+        self
+    }
+}
