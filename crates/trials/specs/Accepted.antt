@@ -13,7 +13,9 @@ use Rattle.walks.specs.Graph.{Graph}
 use Rattle.book.specs.declared.Refusal.the-variants.{Endpoint, Area, Invalid, NotAWalk, Ended, NotStanding, Full}
 use Rattle.book.specs.Refusal.{Groups, Test, refusalOf, firstFailure}
 use Rattle.book.specs.RefusalLaws.{all-hold}
-use Rattle.trials.specs.Trials.{Report, State, pathArea, pathBytes, longest, areasFit, isNamed, hasRoom, beginRefusal, refusal, Valid, isValid, Begin}
+use Rattle.rules.specs.Area.{areaSize}
+use Rattle.planner.specs.Planning.{longest}
+use Rattle.trials.specs.Trials.{Report, State, pathArea, areasFit, isNamed, hasRoom, beginRefusal, refusal, Valid, isValid, Begin}
 use Rattle.trials.specs.Tests.{T→true, true→T, isValid→Valid, Valid→isValid}
 
 -- The tests of an operation under a book that reads well.
@@ -57,7 +59,7 @@ module _ (areas endpoints valid walk standing named room : Bool) where
 
 -- What an accepted begin has passed.
 pub record Accepted (b : Begin) : Type 0 where
-  pub paths-fit : pathBytes ≤ length (b .paths)
+  pub paths-fit : areaSize ≤ length (b .paths)
   pub area-fits : longest ≤ length (b .area)
   pub start : b .start < b .graph .count
   pub end : b .end < b .graph .count
@@ -70,7 +72,7 @@ begin-accepted b =
     let areas = h .areas-hold in
     let endpoints = h .endpoints-hold in
     record {
-      paths-fit = leb→le pathBytes (length (b .paths)) (search conj);
+      paths-fit = leb→le areaSize (length (b .paths)) (search conj);
       area-fits = leb→le longest (length (b .area)) (search conj);
       start = ltb→lt (b .start) count (search conj);
       end = ltb→lt (b .end) count (search conj);
@@ -84,12 +86,12 @@ pub record Accepts (g : Graph) (σ : State) (ρ : Report) : Type 0 where
   pub named : T (isNamed g σ ρ)
   pub room : T (hasRoom σ ρ)
 
-path-area-fits : (σ : State) → pathBytes ≤ length (pathArea σ)
+path-area-fits : (σ : State) → areaSize ≤ length (pathArea σ)
 path-area-fits σ = simp (length-append, length-replicate) (omega arith)
 
 areas-fit : (σ : State) → longest ≤ length (σ .area) → areasFit (pathArea σ) (σ .area) ≡ true
 areas-fit σ long =
-    T→true _ (search (conj, le→leb pathBytes (length (pathArea σ)) (path-area-fits σ), le→leb longest (length (σ .area)) long))
+    T→true _ (search (conj, le→leb areaSize (length (pathArea σ)) (path-area-fits σ), le→leb longest (length (σ .area)) long))
 
 module _ (g : Graph) (σ : State) (ρ : Report) where
   pub accepts : refusal g σ ρ ≡ none → Accepts g σ ρ

@@ -18,7 +18,8 @@ use Rattle.book.specs.declared.Refusal.{Refusal}
 use Rattle.book.specs.declared.Refusal.the-variants.{NotStanding, Full}
 use Rattle.book.specs.Refusal.{firstFailure}
 use Rattle.book.specs.Tables.{padded, entries}
-use Rattle.trials.specs.Trials.{Report, passed, failed, State, pathArea, standing, trials, takes, hasRoom, passedIn, Valid, Plan, refusal, overlaid, step, unless, run, accepted, named, failures, passes, replanned, pathBytes, Begin, begun, stateAfter, acceptedOf}
+use Rattle.rules.specs.Area.{areaSize}
+use Rattle.trials.specs.Trials.{Report, passed, failed, State, pathArea, standing, trials, takes, hasRoom, passedIn, Valid, Plan, refusal, overlaid, step, unless, run, accepted, named, failures, passes, replanned, Begin, begun, stateAfter, acceptedOf}
 use Rattle.trials.specs.Tests.{takes→IsPath}
 use Rattle.trials.specs.Accepted.{begin-accepted, oracleTests, only-oracle}
 use Rattle.trials.specs.Invariant.{Invariant, invariant-begin, invariant-step, kept, anything}
@@ -39,7 +40,7 @@ module _ (b : Begin) where
     -- the known paths: the binding ones, then those named, in order
     pub forbidden : σ .forbidden ≡ F₀ ++ named done
     -- every byte of both areas
-    pub path-bytes : pathArea σ ≡ padded pathBytes (entries (F₀ ++ named done)) ++ drop pathBytes paths
+    pub path-bytes : pathArea σ ≡ padded areaSize (entries (F₀ ++ named done)) ++ drop areaSize paths
     pub path-length : length (pathArea σ) ≡ length paths
     pub area-bytes : σ .area ≡ replanned plan s t F₀ (named done) (overlaid (plan F₀ s t) area)
     pub area-length : length (σ .area) ≡ length area

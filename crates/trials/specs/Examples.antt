@@ -11,7 +11,10 @@ use Rattle.book.specs.declared.Refusal.the-variants.{Ended, NotStanding}
 use Rattle.book.specs.Book.{simple, names}
 use Rattle.book.specs.Tables.{entries}
 use Rattle.automaton.specs.Sums.{marks-3, named-123, named-13}
-use Rattle.trials.specs.Trials.{passed, failed, State, standing, Plan, Planner, holding, beginRefusal, Begin, begun, stateAfter, EachAccepted, after, run, refusal, takes, isValid, isForbiddenSet, isDistinct, isFeasible, pathBytes, longest}
+use Rattle.rules.specs.Binding.{once}
+use Rattle.rules.specs.Area.{areaSize}
+use Rattle.planner.specs.Planning.{longest}
+use Rattle.trials.specs.Trials.{passed, failed, State, standing, Plan, Planner, holding, beginRefusal, Begin, begun, stateAfter, EachAccepted, after, run, refusal, takes, isValid, isForbiddenSet, isFeasible, isRecord}
 use Rattle.trials.specs.Tests.{isForbiddenSet→}
 use Rattle.trials.specs.Lacking.{lacking}
 use Rattle.trials.specs.Oracle.{OracleSet, TrueOracle, TrueTo}
@@ -19,7 +22,7 @@ use Rattle.trials.specs.Plans.{plan-best, plan-none}
 
 -- the areas, as lent
 abbrev paths : List ℕ
-paths = replicate pathBytes 0
+paths = replicate areaSize 0
 
 abbrev area : List ℕ
 area = replicate longest 0
@@ -70,7 +73,7 @@ record-two = refl
 -- Every planner of book A leads there.
 module _ (plan : Plan) (planner : Planner bookA plan) where
   pub beginA : Begin
-  unfolding isForbiddenSet isDistinct takes simple names beginRefusal
+  unfolding isForbiddenSet once takes simple names beginRefusal
   beginA =
       record {
         graph = bookA;
@@ -86,19 +89,19 @@ module _ (plan : Plan) (planner : Planner bookA plan) where
       }
 
   begins : begun beginA ≡ at-begin
-  unfolding beginA isForbiddenSet isDistinct takes simple names
+  unfolding beginA isForbiddenSet once takes simple names
   begins =
       ap (λ (p : Option (List ℕ)). holding bookA p runs₀ 0 3 2 0 [] area)
       (plan-best planner (isForbiddenSet→ 4 runs₀ tt) (omega arith) (omega arith) (marks-3 .best))
 
   first-report : after bookA plan at-begin (failed named₁) ≡ after-one
-  unfolding refusal isValid isForbiddenSet isDistinct isFeasible takes simple names entries
+  unfolding refusal isValid isRecord isForbiddenSet once isFeasible takes simple names entries
   first-report =
       ap (λ (p : Option (List ℕ)). holding bookA p runs₁ 0 3 2 1 [] (at-begin .area))
       (plan-best planner (isForbiddenSet→ 4 runs₁ tt) (omega arith) (omega arith) (named-123 .best))
 
   second-report : after bookA plan after-one (failed named₂) ≡ after-two
-  unfolding refusal isValid isForbiddenSet isDistinct isFeasible takes simple names entries
+  unfolding refusal isValid isRecord isForbiddenSet once isFeasible takes simple names entries
   second-report =
       ap (λ (p : Option (List ℕ)). holding bookA p runs₂ 0 3 2 2 [] (after-one .area))
       (plan-none planner (isForbiddenSet→ 4 runs₂ tt) (omega arith) (omega arith) named-13)
@@ -113,7 +116,7 @@ module _ (plan : Plan) (planner : Planner bookA plan) where
 
   -- The oracle theorem speaks of these trials: the oracle with the two paths is true to them.
   pub oracle-set : OracleSet beginA (named₁ ∷ named₂ ∷ [])
-  unfolding beginA isForbiddenSet isDistinct takes simple names lacking
+  unfolding beginA isForbiddenSet once takes simple names lacking
   oracle-set = record { taken = isForbiddenSet→ 4 (named₁ ∷ named₂ ∷ []) tt .taken; few = omega arith }
 
   pub oracle-true : TrueOracle beginA (named₁ ∷ named₂ ∷ []) (failed named₁ ∷ failed named₂ ∷ [])
@@ -131,21 +134,21 @@ module _ (plan : Plan) (planner : Planner bookA plan) where
 -- Refused at the start: a path that stands in the walk and names a vertex twice, one of one vertex, one that does not stand in the walk,
 -- one that is known already. Refused at the end: every report.
 pub named-twice : refusal bookA at-begin (failed (2 ∷ 1 ∷ 2 ∷ [])) ≡ some NotStanding
-unfolding refusal isValid isForbiddenSet isDistinct isFeasible takes simple names entries
+unfolding refusal isValid isRecord isForbiddenSet once isFeasible takes simple names entries
 named-twice = refl
 
 pub too-short : refusal bookA at-begin (failed (1 ∷ [])) ≡ some NotStanding
-unfolding refusal isValid isForbiddenSet isDistinct isFeasible takes simple names entries
+unfolding refusal isValid isRecord isForbiddenSet once isFeasible takes simple names entries
 too-short = refl
 
 pub not-there : refusal bookA at-begin (failed (1 ∷ 3 ∷ [])) ≡ some NotStanding
-unfolding refusal isValid isForbiddenSet isDistinct isFeasible takes simple names entries
+unfolding refusal isValid isRecord isForbiddenSet once isFeasible takes simple names entries
 not-there = refl
 
 pub known-already : refusal bookA at-begin (failed (0 ∷ 1 ∷ 2 ∷ 3 ∷ [])) ≡ some NotStanding
-unfolding refusal isValid isForbiddenSet isDistinct isFeasible takes simple names entries
+unfolding refusal isValid isRecord isForbiddenSet once isFeasible takes simple names entries
 known-already = refl
 
 pub too-late : refusal bookA after-two passed ≡ some Ended
-unfolding refusal isValid isForbiddenSet isDistinct isFeasible takes simple names entries
+unfolding refusal isValid isRecord isForbiddenSet once isFeasible takes simple names entries
 too-late = refl

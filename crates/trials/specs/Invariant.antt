@@ -14,7 +14,9 @@ use Rattle.walks.specs.Walk.{weightOf}
 use Rattle.walks.specs.Avoid.{occurs, occurs→Occurs}
 use Rattle.walks.specs.Best.{Best, None}
 use Rattle.book.specs.declared.Refusal.{Refusal}
-use Rattle.trials.specs.Trials.{Report, passed, failed, State, standing, takes, ForbiddenSet, Valid, Planned, Plan, Planner, refusal, overlaid, holding, step, unless, after, run, accepted, EachAccepted, named, failures, passes, replanned, longest, mostPaths, pathBytes, Begin, begun}
+use Rattle.rules.specs.Area.{mostPaths, areaSize}
+use Rattle.planner.specs.Planning.{longest}
+use Rattle.trials.specs.Trials.{Report, passed, failed, State, standing, takes, ForbiddenSet, Valid, Planned, Plan, Planner, refusal, overlaid, holding, step, unless, after, run, accepted, EachAccepted, named, failures, passes, replanned, Begin, begun}
 use Rattle.trials.specs.Lacking.{distinct-snoc}
 use Rattle.trials.specs.Accepted.{begin-accepted, Accepts, accepts}
 
@@ -154,7 +156,7 @@ module _ (b : Begin) where
     pub failed-count : σ .rec .failed ≡ failures done
     pub passed-count : σ .rec .passed ≡ passes done
     pub forbidden : σ .forbidden ≡ F₀ ++ named done
-    pub beyond : σ .beyond ≡ drop pathBytes paths
+    pub beyond : σ .beyond ≡ drop areaSize paths
     pub area-bytes : σ .area ≡ replanned plan s t F₀ (named done) (overlaid (plan F₀ s t) area)
     pub area-length : length (σ .area) ≡ length area
     pub valid : Valid g σ
@@ -165,7 +167,7 @@ module _ (b : Begin) where
   unfolding named passes replanned
   invariant-begin =
       let a = begin-accepted b in
-      let f = fresh planner F₀ s t (length F₀) 0 (drop pathBytes paths) area bound (a .start) (a .end) (omega arith) (a .area-fits) in
+      let f = fresh planner F₀ s t (length F₀) 0 (drop areaSize paths) area bound (a .start) (a .end) (omega arith) (a .area-fits) in
       record {
         start = refl;
         end = refl;

@@ -16,7 +16,10 @@ use Rattle.walks.specs.Avoid.{same, same→≡, same-refl, avoids→Avoids, Avo
 use Rattle.walks.specs.Best.{Feasible}
 use Rattle.book.specs.Book.{All, IsPath, VerticesOnce, simple, names}
 use Rattle.book.specs.BookLaws.{simple-below, simple-once}
-use Rattle.trials.specs.Trials.{State, standing, passedIn, takes, ForbiddenSet, Valid, isDistinct, isForbiddenSet, isFeasible, isValid, longest, mostPaths}
+use Rattle.rules.specs.Binding.{once}
+use Rattle.rules.specs.Area.{mostPaths}
+use Rattle.planner.specs.Planning.{longest}
+use Rattle.trials.specs.Trials.{State, standing, passedIn, takes, ForbiddenSet, Valid, isForbiddenSet, isFeasible, isValid, isRecord}
 
 pub T→true : (b : Bool) → T b → b ≡ true
 T→true true t = refl
@@ -64,19 +67,19 @@ same→mem r F t =
 pub mem→same : (r : List ℕ) (F : List (List ℕ)) → List·Memᴰ r F → T (any (same r) F)
 mem→same r F m = some→any (same r) m (same-refl r)
 
-pub isDistinct→Distinct : (F : List (List ℕ)) → T (isDistinct F) → Distinct F
-unfolding isDistinct
-isDistinct→Distinct [] t = tt
-isDistinct→Distinct (r ∷ F) t = (
-  λ m. T-not (any (same r) F) (and-l (not (any (same r) F)) (isDistinct F) t) (mem→same r F m),
-  isDistinct→Distinct F (and-r (not (any (same r) F)) (isDistinct F) t),
+pub once→Distinct : (F : List (List ℕ)) → T (once F) → Distinct F
+unfolding once
+once→Distinct [] t = tt
+once→Distinct (r ∷ F) t = (
+  λ m. T-not (any (same r) F) (and-l (not (any (same r) F)) (once F) t) (mem→same r F m),
+  once→Distinct F (and-r (not (any (same r) F)) (once F) t),
 )
 
-pub Distinct→isDistinct : (F : List (List ℕ)) → Distinct F → T (isDistinct F)
-unfolding isDistinct
-Distinct→isDistinct [] d = tt
-Distinct→isDistinct (r ∷ F) d =
-    and-i (not (any (same r) F)) (isDistinct F) (not-T (any (same r) F) (λ t. d .0 (same→mem r F t))) (Distinct→isDistinct F (d .1))
+pub Distinct→once : (F : List (List ℕ)) → Distinct F → T (once F)
+unfolding once
+Distinct→once [] d = tt
+Distinct→once (r ∷ F) d =
+    and-i (not (any (same r) F)) (once F) (not-T (any (same r) F) (λ t. d .0 (same→mem r F t))) (Distinct→once F (d .1))
 
 -- What binding gives is a forbidden set: at most 256 different paths of the book.
 pub forbidden-set : (count : ℕ) (F : List (List ℕ)) → length F ≤ mostPaths → Distinct F → All (IsPath count) F → ForbiddenSet count F
@@ -92,14 +95,14 @@ module _ (count : ℕ) (F : List (List ℕ)) where
   isForbiddenSet→ t =
       record {
         few = leb→le (length F) mostPaths (search conj);
-        distinct = isDistinct→Distinct F (search conj);
+        distinct = once→Distinct F (search conj);
         taken = λ r m. all→each (takes count) (search conj) m;
       }
 
   pub →isForbiddenSet : ForbiddenSet count F → T (isForbiddenSet count F)
   unfolding isForbiddenSet
   →isForbiddenSet h =
-      search (conj, le→leb (length F) mostPaths (h .few), Distinct→isDistinct F (h .distinct), each→all (takes count) F (h .taken))
+      search (conj, le→leb (length F) mostPaths (h .few), Distinct→once F (h .distinct), each→all (takes count) F (h .taken))
 
 module _ (g : Graph) (F : List (List ℕ)) (s t : ℕ) (w : List ℕ) where
   pub isFeasible→Feasible : T (isFeasible g F s t w) → Feasible g F s t w
@@ -126,7 +129,7 @@ module _ (g : Graph) (σ : State) where
       (isFeasible g (σ .forbidden) (σ .rec .start) (σ .rec .end) (standing σ) && eqb (σ .rec .litres) (weightOf g (standing σ)))
 
   pub isValid→Valid : T (isValid g σ) → Valid g σ
-  unfolding isValid lastTest
+  unfolding isValid isRecord lastTest
   isValid→Valid t =
       let (walk, litres, no-walk) = last (eqb (σ .rec .stage) 2) refl (search conj) in
       record {
@@ -159,7 +162,7 @@ module _ (g : Graph) (σ : State) where
       )
 
   pub Valid→isValid : Valid g σ → T (isValid g σ)
-  unfolding isValid lastTest
+  unfolding isValid isRecord lastTest
   Valid→isValid v =
       search (
         conj,

@@ -1,37 +1,27 @@
 -- The trials (01, 'Trials'): what a report is, when it is refused, and the three rules.
 use Prim.Native.Nat.{ℕ, suc, _+_, _≤_, _<_}
 use mathlib.Core.Path.{_≡_}
-use mathlib.Core.Bool.{Bool, true, not, cond, _&&_}
+use mathlib.Core.Bool.{Bool, true, cond, _&&_}
 use mathlib.Core.List.{List, [], _∷_, _++_, List·Memᴰ}
 use mathlib.Core.Logic.{_≢_}
 use mathlib.Core.Option.{Option, none, some}
 use lib.Dec.{T, eqb, leb, ltb}
 use lib.ListN.{length, getD, take, drop}
 use Rattle.lists.specs.Distinct.{Distinct}
-use Rattle.lists.specs.Test.{all, any}
+use Rattle.lists.specs.Test.{all}
 use Rattle.walks.specs.Graph.{Graph}
 use Rattle.walks.specs.Walk.{isWalk, weightOf, hops}
-use Rattle.walks.specs.Avoid.{same, occurs, avoids}
+use Rattle.walks.specs.Avoid.{occurs, avoids}
 use Rattle.walks.specs.Best.{Feasible, Best, None}
 use Rattle.book.specs.declared.Refusal.{Refusal}
 use Rattle.book.specs.declared.Kind.the-variants.{Path}
 use Rattle.book.specs.Refusal.{refusalOf}
 use Rattle.book.specs.Book.{simple}
 use Rattle.book.specs.Reading.{fits}
-use Rattle.book.specs.Tables.{padded, entries}
+use Rattle.rules.specs.Binding.{once}
+use Rattle.rules.specs.Area.{mostPaths, areaSize, written}
+use Rattle.planner.specs.Planning.{longest}
 use Rattle.trials.specs.declared.Record.{Record}
-
--- ---- sizes
--- How long a walk may be (01: a plan has at most 1,600 grades), and the least size of the line-up area.
-abbrev pub longest : ℕ
-longest = 1600
-
--- How many forbidden paths may be known (01: 256), and the bytes of their entries in the runs area.
-abbrev pub mostPaths : ℕ
-mostPaths = 256
-
-abbrev pub pathBytes : ℕ
-pathBytes = 2304
 
 -- ---- the state of the trials
 -- A report of the oracle (01: of the lab): the standing walk passes, or fails and a forbidden path is named.
@@ -49,7 +39,7 @@ pub record State : Type 0 where
 
 -- Every byte of the runs area: the entries, unused bytes 0, and what stands after them.
 abbrev pub pathArea : State → List ℕ
-pathArea σ = padded pathBytes (entries (σ .forbidden)) ++ σ .beyond
+pathArea σ = written (σ .forbidden) ++ σ .beyond
 
 -- The standing walk (01: the first grades of its area, as many as the record's length).
 abbrev pub standing : State → List ℕ
@@ -95,21 +85,16 @@ pub record Valid (g : Graph) (σ : State) : Type 0 where
   pub no-walk : σ .rec .stage ≡ 2 → (σ .rec .length ≡ 0) × (σ .rec .litres ≡ 0)
 
 -- The tests of both; specs/Tests.antt proves that they decide them.
-unfoldable pub isDistinct : List (List ℕ) → Bool
-isDistinct [] = true
-isDistinct (r ∷ F) = not (any (same r) F) && isDistinct F
-
 unfoldable pub isForbiddenSet : ℕ → List (List ℕ) → Bool
-isForbiddenSet count F = leb (length F) mostPaths && isDistinct F && all (takes count) F
+isForbiddenSet count F = leb (length F) mostPaths && once F && all (takes count) F
 
 unfoldable pub isFeasible : Graph → List (List ℕ) → ℕ → ℕ → List ℕ → Bool
 isFeasible g F s t w = isWalk g w && eqb (getD w 0 0) s && eqb (getD w (hops w) 0) t && avoids F w
 
-unfoldable pub isValid : Graph → State → Bool
-isValid g σ =
-    isForbiddenSet (g .count) (σ .forbidden)
-    && eqb (σ .rec .known) (length (σ .forbidden))
-    && leb (σ .rec .stage) 2
+-- The record of a state whose forbidden set is one.
+unfoldable pub isRecord : Graph → State → Bool
+isRecord g σ =
+    leb (σ .rec .stage) 2
     && ltb (σ .rec .start) (g .count)
     && ltb (σ .rec .end) (g .count)
     && eqb (σ .rec .known) (σ .rec .first + σ .rec .failed)
@@ -119,10 +104,13 @@ isValid g σ =
     (eqb (σ .rec .length) 0 && eqb (σ .rec .litres) 0)
     (isFeasible g (σ .forbidden) (σ .rec .start) (σ .rec .end) (standing σ) && eqb (σ .rec .litres) (weightOf g (standing σ)))
 
+unfoldable pub isValid : Graph → State → Bool
+isValid g σ = isForbiddenSet (g .count) (σ .forbidden) && eqb (σ .rec .known) (length (σ .forbidden)) && isRecord g σ
+
 -- ---- the refusals of begin and of a report, under a book that reads well; the order is that of `refusalOf`
 -- 8: both areas are long enough.
 abbrev pub areasFit : List ℕ → List ℕ → Bool
-areasFit paths area = leb pathBytes (length paths) && leb longest (length area)
+areasFit paths area = leb areaSize (length paths) && leb longest (length area)
 
 -- 12: the named path has 2 to 8 vertices, none named twice, and stands in the standing walk. (`takes` also asks that they are below the
 -- count, as all vertices of a walk are.)
@@ -225,7 +213,7 @@ holding g p F s t first failures beyond area =
 module _ (g : Graph) (plan : Plan) where
   -- Begin: bind (F is what binding gives), plan; failed and passed 0. Bytes of the runs area after the entries are untouched.
   abbrev pub begin : List (List ℕ) → ℕ → ℕ → List ℕ → List ℕ → State
-  begin F s t paths area = holding g (plan F s t) F s t (length F) 0 (drop pathBytes paths) area
+  begin F s t paths area = holding g (plan F s t) F s t (length F) 0 (drop areaSize paths) area
 
   -- Report passed: stage 1, passed becomes 1.
   -- Report failed with a path: it becomes the last known one, failed grows by 1, plan anew.
