@@ -7,6 +7,7 @@ use cases::wide;
 use planner::LONGEST;
 use rules::AREA;
 use trials::Begun;
+use trials::Made;
 use trials::Record;
 use trials::Reported;
 
@@ -41,10 +42,13 @@ fn replay(bytes: &[u8], flags: u16, start: u8, end: u8, reports: &[u8]) {
             print(first, &walk);
             let mut record = first;
             let mut at = 0;
-            while trials::is_report(reports, at) {
-                let reported = trials::make(bytes, record, reports, at, &mut paths, &mut walk);
+            while at < reports.len() {
+                let made = trials::make(bytes, record, reports, at, &mut paths, &mut walk);
+                let Made::Report(reported, next) = made else {
+                    return;
+                };
                 record = answer(reported, &walk);
-                at = trials::report_end(reports, at);
+                at = next;
             }
         }
     }

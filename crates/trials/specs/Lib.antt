@@ -1,4 +1,10 @@
 pub mod Trials
+pub mod Chosen
+pub mod Reports
+pub mod Steps
+pub mod Operations
+pub mod Judging
+pub mod Replay
 pub mod Tests
 pub mod Plans
 pub mod Accepted

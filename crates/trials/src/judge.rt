@@ -1,4 +1,18 @@
 // What a report is refused for in a book that has been read.
+ghost use mathlib.Core.Path.{_≡_};
+ghost use mathlib.Core.Bool.{true, _&&_};
+ghost use Prim.Native.Nat.{_≤_};
+ghost use lib.Dec.{eqb};
+ghost use lib.ListN.{length, drop};
+ghost use Rattle.walks.specs.Walk.{isWalk, weightOf};
+ghost use Rattle.walks.specs.Avoid.{isPrefix};
+ghost use Rattle.walks.specs.Avoid.{occurs as Avoid·occurs};
+ghost use Rattle.book.specs.Book.{Book, graph};
+ghost use Rattle.rules.specs.Area.{areaSize, spelled, valid};
+ghost use Rattle.planner.specs.Planning.{longest};
+ghost use Rattle.trials.specs.Trials.{takes, passedIn, isFeasible, isRecord};
+ghost use Rattle.trials.specs.Operations.{stateOf, barred};
+ghost use Rattle.trials.specs.Judging.{IsOf, judgedAs};
 use crate::Record;
 use book::Refusal;
 use planner::LONGEST;
@@ -11,7 +25,11 @@ pub enum Judged {
 }
 
 // The weight of a walk.
-fn weigh(weights: &[u32; 4096], walk: &[u8]) -> u64 {
+fn weigh(weights: &[u32; 4096], vertices: usize, walk: &[u8]) -> u64
+    requires { ⌜ ((b : Book) × IsOf b vertices (now weights) × (isWalk (graph b) (now walk) ≡ true)) ⌝ }
+    requires { ⌜ length (now walk) ≤ longest ⌝ }
+    ensures { λ r. ⌜ ((b : Book) → IsOf b vertices (now (weights .entry)) → isWalk (graph b) (now (walk .entry)) ≡ true → r ≡ weightOf (graph b) (now (walk .entry))) ⌝ }
+{
     let mut sum: u64 = 0;
     let mut u = walk[0] as usize;
     let mut i = 1;
@@ -25,97 +43,103 @@ fn weigh(weights: &[u32; 4096], walk: &[u8]) -> u64 {
 }
 
 // Whether a walk from the record's start to its end, clear of the forbidden paths, stands, and weighs what the record says.
-fn stands(
-    weights: &[u32; 4096],
-    vertices: usize,
-    record: Record,
-    paths: &[u8],
-    walk: &[u8],
-) -> bool {
+fn stands(weights: &[u32; 4096], vertices: usize, rec: Record, paths: &[u8], walk: &[u8]) -> bool
+    requires { ⌜ ((b : Book) × IsOf b vertices (now weights)) ⌝ }
+    requires { ⌜ length (now walk) ≤ longest ⌝ }
+    requires { ⌜ (areaSize ≤ length (now paths)) × (valid vertices (now paths) (rec .known) ≡ true) ⌝ }
+    ensures { λ r. ⌜ ((b : Book) → IsOf b vertices (now (weights .entry)) → r ≡ isFeasible (graph b) (spelled (rec .known) (now (paths .entry))) (rec .start) (rec .end) (now (walk .entry)) && eqb (rec .litres) (weightOf (graph b) (now (walk .entry)))) ⌝ }
+{
     if !rules::is_walk(weights, vertices, walk) {
         return false;
     }
-    if walk[0] != record.start {
+    if walk[0] != rec.start {
         return false;
     }
-    if walk[walk.len() - 1] != record.end {
+    if walk[walk.len() - 1] != rec.end {
         return false;
     }
-    let Checked::Clear = rules::search(paths, record.known, walk) else {
+    let Checked::Clear = rules::search(paths, rec.known, walk) else {
         return false;
     };
-    weigh(weights, walk) == record.litres
+    weigh(weights, vertices, walk) == rec.litres
 }
 
 // How many passed reports a record counts in a stage.
-fn passed_in(stage: usize) -> usize {
+fn passed_in(stage: usize) -> usize
+    ensures { λ r. ⌜ r ≡ passedIn stage ⌝ }
+{
     if stage == 1 { 1 } else { 0 }
 }
 
 // 9 on a record, where the forbidden paths are valid.
-fn is_record(
-    weights: &[u32; 4096],
-    vertices: usize,
-    record: Record,
-    paths: &[u8],
-    walk: &[u8],
-) -> bool {
-    if 2 < record.stage {
+fn is_record(weights: &[u32; 4096], vertices: usize, rec: Record, paths: &[u8], walk: &[u8]) -> bool
+    requires { ⌜ ((b : Book) × IsOf b vertices (now weights)) ⌝ }
+    requires { ⌜ longest ≤ length (now walk) ⌝ }
+    requires { ⌜ (areaSize ≤ length (now paths)) × (valid vertices (now paths) (rec .known) ≡ true) ⌝ }
+    ensures { λ r. ⌜ ((b : Book) → IsOf b vertices (now (weights .entry)) → r ≡ isRecord (graph b) (stateOf rec (now (paths .entry)) (now (walk .entry)))) ⌝ }
+{
+    if 2 < rec.stage {
         return false;
     }
-    if vertices <= record.start as usize {
+    if vertices <= rec.start as usize {
         return false;
     }
-    if vertices <= record.end as usize {
+    if vertices <= rec.end as usize {
         return false;
     }
-    if record.known < record.first {
+    if rec.known < rec.first {
         return false;
     }
-    if record.known - record.first != record.failed {
+    if rec.known - rec.first != rec.failed {
         return false;
     }
-    if record.passed != passed_in(record.stage) {
+    if rec.passed != passed_in(rec.stage) {
         return false;
     }
-    let length = record.length;
+    let length = rec.length;
     if LONGEST < length {
         return false;
     }
-    if record.stage == 2 {
-        return length == 0 && record.litres == 0;
+    if rec.stage == 2 {
+        return length == 0 && rec.litres == 0;
     }
-    stands(weights, vertices, record, paths, &walk[..length])
+    stands(weights, vertices, rec, paths, &walk[..length])
 }
 
 // 8, 9 and 11: what every report is refused for.
 pub fn judge(
     weights: &[u32; 4096],
     vertices: usize,
-    record: Record,
+    rec: Record,
     paths: &[u8],
     walk: &[u8],
-) -> Judged {
+) -> Judged
+    requires { ⌜ ((b : Book) × IsOf b vertices (now weights)) ⌝ }
+    ensures { λ r. ⌜ ((b : Book) → IsOf b vertices (now (weights .entry)) → r ≡ judgedAs (barred b rec (now (paths .entry)) (now (walk .entry)) true true)) ⌝ }
+{
     if paths.len() < AREA {
         return Judged::Refused(Refusal::Area);
     }
     if walk.len() < LONGEST {
         return Judged::Refused(Refusal::Area);
     }
-    if !rules::valid(paths, record.known, vertices) {
+    if !rules::valid(paths, rec.known, vertices) {
         return Judged::Refused(Refusal::Invalid);
     }
-    if !is_record(weights, vertices, record, paths, walk) {
+    if !is_record(weights, vertices, rec, paths, walk) {
         return Judged::Refused(Refusal::Invalid);
     }
-    if record.stage != 0 {
+    if rec.stage != 0 {
         return Judged::Refused(Refusal::Ended);
     }
     Judged::Standing
 }
 
 // Whether a walk from `at` on begins with a path.
-fn begins(walk: &[u8], at: usize, path: &[u8]) -> bool {
+fn begins(walk: &[u8], at: usize, path: &[u8]) -> bool
+    requires { ⌜ at ≤ length (now walk) ⌝ }
+    ensures { λ r. ⌜ r ≡ isPrefix (now (path .entry)) (drop at (now (walk .entry))) ⌝ }
+{
     let n = path.len();
     if walk.len() - at < n {
         return false;
@@ -131,7 +155,9 @@ fn begins(walk: &[u8], at: usize, path: &[u8]) -> bool {
 }
 
 // Whether a path stands in a walk.
-fn occurs(path: &[u8], walk: &[u8]) -> bool {
+fn occurs(path: &[u8], walk: &[u8]) -> bool
+    ensures { λ r. ⌜ r ≡ Avoid·occurs (now (path .entry)) (now (walk .entry)) ⌝ }
+{
     let mut at = 0;
     while at < walk.len() {
         if begins(walk, at, path) {
@@ -143,7 +169,9 @@ fn occurs(path: &[u8], walk: &[u8]) -> bool {
 }
 
 // 12: whether a named path is one by the book's rules, and stands in the walk.
-pub fn is_named(named: &[u8], vertices: usize, walk: &[u8]) -> bool {
+pub fn is_named(named: &[u8], vertices: usize, walk: &[u8]) -> bool
+    ensures { λ r. ⌜ r ≡ takes vertices (now (named .entry)) && Avoid·occurs (now (named .entry)) (now (walk .entry)) ⌝ }
+{
     let n = named.len();
     if n < 2 {
         return false;

@@ -1,19 +1,17 @@
 // The trials of a batch (01, 'Trials'): begin, and what the oracle (01: the lab) reports.
-mod begin;
 mod judge;
-mod record;
-mod replay;
+mod opening;
 mod report;
+mod series;
+mod steps;
 
-pub use begin::begin;
 use book::Refusal;
-pub use replay::is_report;
-pub use replay::make;
-pub use replay::record_of;
-pub use replay::replay;
-pub use replay::report_end;
+pub use opening::begin;
 pub use report::report_failed;
 pub use report::report_passed;
+pub use series::make;
+pub use series::record_of;
+pub use series::replay;
 
 // The record of 01. The stage is 0 while a walk (01: line-up) stands, 1 once it has passed, 2 where there is none.
 pub struct Record {
@@ -31,6 +29,7 @@ pub struct Record {
     pub length: usize,
 }
 
+// Begin gives the first record, or is refused.
 pub enum Begun {
     Record(Record),
     Refused(Refusal),
@@ -40,4 +39,10 @@ pub enum Begun {
 pub enum Reported {
     Accepted(Record),
     Refused(Refusal, Record),
+}
+
+// A report of a list has been made, and ends at that place; or the list is at its end.
+pub enum Made {
+    Report(Reported, usize),
+    End,
 }

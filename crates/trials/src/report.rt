@@ -1,4 +1,15 @@
 // The reports of the oracle.
+ghost use mathlib.Core.Path.{_≡_};
+ghost use mathlib.Core.Option.{none};
+ghost use Prim.Native.Nat.{_+_, _*_, _≤_};
+ghost use lib.ListN.{length, set};
+ghost use lib.Seq.{paste};
+ghost use Rattle.book.specs.Book.{Book, graph};
+ghost use Rattle.book.specs.Reading.{accepted};
+ghost use Rattle.trials.specs.declared.Reported.the-variants.{Accepted};
+ghost use Rattle.trials.specs.Trials.{passed, failed};
+ghost use Rattle.trials.specs.Operations.{left, reportRefusal, reportingOf, reporting};
+ghost use Rattle.trials.specs.Judging.{IsOf};
 use crate::Record;
 use crate::Reported;
 use crate::judge::Judged;
@@ -12,15 +23,17 @@ use book::Refusal;
 const MOST: usize = 256;
 
 // The standing walk has passed.
-pub fn report_passed(bytes: &[u8], record: Record, paths: &[u8], walk: &[u8]) -> Reported {
+pub fn report_passed(bytes: &[u8], rec: Record, paths: &[u8], walk: &[u8]) -> Reported
+    ensures { λ r. ⌜ left r (now (paths .entry)) (now (walk .entry)) ≡ reporting (now (bytes .entry)) rec (now (paths .entry)) (now (walk .entry)) passed ⌝ }
+{
     let mut weights = [NO_ARC; 4096];
     let mut flags = [0u16; 16];
     let mut owners = [0u8; 256];
     let mut entries = [0u8; 2304];
     let read = book::load(bytes, &mut weights, &mut flags, &mut owners, &mut entries);
     match read {
-        Answer::Refused(r) => Reported::Refused(r, record),
-        Answer::Read(counts) => passed_in(&weights, counts.vertices, record, paths, walk),
+        Answer::Refused(r) => Reported::Refused(r, rec),
+        Answer::Read(counts) => passed_in(&weights, counts.vertices, rec, paths, walk),
     }
 }
 
@@ -28,32 +41,37 @@ pub fn report_passed(bytes: &[u8], record: Record, paths: &[u8], walk: &[u8]) ->
 fn passed_in(
     weights: &[u32; 4096],
     vertices: usize,
-    record: Record,
+    rec: Record,
     paths: &[u8],
     walk: &[u8],
-) -> Reported {
-    match judge(weights, vertices, record, paths, walk) {
-        Judged::Refused(r) => Reported::Refused(r, record),
-        Judged::Standing => Reported::Accepted(record.passed()),
+) -> Reported
+    requires { ⌜ ((b : Book) × IsOf b vertices (now weights)) ⌝ }
+    ensures { λ r. ⌜ ((b : Book) → IsOf b vertices (now (weights .entry)) → left r (now (paths .entry)) (now (walk .entry)) ≡ reportingOf (accepted b) rec (now (paths .entry)) (now (walk .entry)) passed) ⌝ }
+{
+    match judge(weights, vertices, rec, paths, walk) {
+        Judged::Refused(r) => Reported::Refused(r, rec),
+        Judged::Standing => Reported::Accepted(rec.passed()),
     }
 }
 
 // The standing walk has failed, and a forbidden path that stands in it is named.
 pub fn report_failed(
     bytes: &[u8],
-    record: Record,
+    rec: Record,
     paths: &mut [u8],
     walk: &mut [u8],
     named: &[u8],
-) -> Reported {
+) -> Reported
+    ensures { λ r. ⌜ left r (now (paths .exit)) (now (walk .exit)) ≡ reporting (now (bytes .entry)) rec (now (paths .entry)) (now (walk .entry)) (failed (now (named .entry))) ⌝ }
+{
     let mut weights = [NO_ARC; 4096];
     let mut flags = [0u16; 16];
     let mut owners = [0u8; 256];
     let mut entries = [0u8; 2304];
     let read = book::load(bytes, &mut weights, &mut flags, &mut owners, &mut entries);
     match read {
-        Answer::Refused(r) => Reported::Refused(r, record),
-        Answer::Read(counts) => failed_in(&weights, counts.vertices, record, paths, walk, named),
+        Answer::Refused(r) => Reported::Refused(r, rec),
+        Answer::Read(counts) => failed_in(&weights, counts.vertices, rec, paths, walk, named),
     }
 }
 
@@ -61,22 +79,25 @@ pub fn report_failed(
 fn failed_in(
     weights: &[u32; 4096],
     vertices: usize,
-    record: Record,
+    rec: Record,
     paths: &mut [u8],
     walk: &mut [u8],
     named: &[u8],
-) -> Reported {
-    match judge(weights, vertices, record, paths, walk) {
-        Judged::Refused(r) => Reported::Refused(r, record),
+) -> Reported
+    requires { ⌜ ((b : Book) × IsOf b vertices (now weights)) ⌝ }
+    ensures { λ r. ⌜ ((b : Book) → IsOf b vertices (now (weights .entry)) → left r (now (paths .exit)) (now (walk .exit)) ≡ reportingOf (accepted b) rec (now (paths .entry)) (now (walk .entry)) (failed (now (named .entry)))) ⌝ }
+{
+    match judge(weights, vertices, rec, paths, walk) {
+        Judged::Refused(r) => Reported::Refused(r, rec),
         Judged::Standing => {
-            let length = record.length;
+            let length = rec.length;
             if !is_named(named, vertices, &walk[..length]) {
-                return Reported::Refused(Refusal::NotStanding, record);
+                return Reported::Refused(Refusal::NotStanding, rec);
             }
-            if MOST <= record.known {
-                return Reported::Refused(Refusal::Full, record);
+            if MOST <= rec.known {
+                return Reported::Refused(Refusal::Full, rec);
             }
-            Reported::Accepted(replan(weights, vertices, record, paths, walk, named))
+            Reported::Accepted(replan(weights, vertices, rec, paths, walk, named))
         }
     }
 }
@@ -85,13 +106,16 @@ fn failed_in(
 fn replan(
     weights: &[u32; 4096],
     vertices: usize,
-    record: Record,
+    rec: Record,
     paths: &mut [u8],
     walk: &mut [u8],
     named: &[u8],
-) -> Record {
-    enter(named, record.known, paths);
-    let next = record.failed();
+) -> Record
+    requires { ⌜ ((b : Book) × IsOf b vertices (now weights) × (reportRefusal b rec (now paths) (now walk) (failed (now named)) ≡ none)) ⌝ }
+    ensures { λ r. ⌜ ((b : Book) → IsOf b vertices (now (weights .entry)) → reportRefusal b rec (now (paths .entry)) (now (walk .entry)) (failed (now (named .entry))) ≡ none → left (Accepted r) (now (paths .exit)) (now (walk .exit)) ≡ reportingOf (accepted b) rec (now (paths .entry)) (now (walk .entry)) (failed (now (named .entry)))) ⌝ }
+{
+    enter(named, rec.known, paths);
+    let next = rec.failed();
     let outcome = planner::plan_in(
         weights,
         vertices,
@@ -105,7 +129,11 @@ fn replan(
 }
 
 // Enters a path into an area behind `known` others.
-fn enter(path: &[u8], known: usize, paths: &mut [u8]) {
+fn enter(path: &[u8], known: usize, paths: &mut [u8])
+    requires { ⌜ length (now path) ≤ 8 ⌝ }
+    requires { ⌜ known * 9 + 9 ≤ length (now paths) ⌝ }
+    ensures { λ _. ⌜ now (paths .exit) ≡ paste (set (now (paths .entry)) (known * 9) (length (now (path .entry)))) (known * 9 + 1) (now (path .entry)) (length (now (path .entry))) ⌝ }
+{
     let at = known * 9;
     let n = path.len();
     paths[at] = n as u8;

@@ -1,10 +1,16 @@
 // The steps of the record: each takes it by value and hands the next one back.
+ghost use mathlib.Core.Path.{_≡_};
+ghost use Prim.Native.Nat.{_≤_, _<_};
+ghost use Rattle.trials.specs.Steps.{fresh, withPlan, Counted, passedOf, failedOf};
+ghost use Rattle.trials.specs.Steps.{replanned as Steps·replanned};
 use crate::Record;
 use planner::Outcome;
 
 impl Record {
     // The record of trials that begin with that many forbidden paths known, before there is a plan.
-    pub fn new(start: u8, end: u8, known: usize) -> Record {
+    pub fn new(start: u8, end: u8, known: usize) -> Record
+        ensures { λ r. ⌜ r ≡ fresh start end known ⌝ }
+    {
         Record {
             stage: 2,
             start,
@@ -19,7 +25,9 @@ impl Record {
     }
 
     // A walk stands.
-    pub fn standing(mut self, weight: u64, length: usize) -> Record {
+    pub fn standing(mut self, weight: u64, length: usize) -> Record
+        ensures { λ r. ⌜ r ≡ withPlan self 0 weight length ⌝ }
+    {
         self.stage = 0;
         self.litres = weight;
         self.length = length;
@@ -27,7 +35,9 @@ impl Record {
     }
 
     // There is no walk.
-    pub fn nothing(mut self) -> Record {
+    pub fn nothing(mut self) -> Record
+        ensures { λ r. ⌜ r ≡ withPlan self 2 0 0 ⌝ }
+    {
         self.stage = 2;
         self.litres = 0;
         self.length = 0;
@@ -35,7 +45,10 @@ impl Record {
     }
 
     // The plan anew.
-    pub fn replanned(self, outcome: Outcome) -> Record {
+    pub fn replanned(self, outcome: Outcome) -> Record
+        requires { ⌜ Counted outcome ⌝ }
+        ensures { λ r. ⌜ r ≡ Steps·replanned self outcome ⌝ }
+    {
         match outcome {
             Outcome::Walk { weight, hops } => self.standing(weight, hops + 1),
             Outcome::Nothing => self.nothing(),
@@ -44,14 +57,19 @@ impl Record {
     }
 
     // The standing walk has passed.
-    pub fn passed(mut self) -> Record {
+    pub fn passed(mut self) -> Record
+        ensures { λ r. ⌜ r ≡ passedOf self ⌝ }
+    {
         self.stage = 1;
         self.passed = 1;
         self
     }
 
     // The standing walk has failed: one more forbidden path is known.
-    pub fn failed(mut self) -> Record {
+    pub fn failed(mut self) -> Record
+        requires { ⌜ (self .known < 256) × (self .failed ≤ self .known) ⌝ }
+        ensures { λ r. ⌜ r ≡ failedOf self ⌝ }
+    {
         self.known += 1;
         self.failed += 1;
         self

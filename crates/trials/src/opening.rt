@@ -1,4 +1,8 @@
 // Begin: bind, plan.
+ghost use mathlib.Core.Path.{_≡_};
+ghost use lib.ListN.{length};
+ghost use Rattle.rules.specs.Area.{areaSize};
+ghost use Rattle.trials.specs.Operations.{left, beginning};
 use crate::Begun;
 use crate::Record;
 use book::Refusal;
@@ -15,7 +19,9 @@ pub fn begin(
     end: u8,
     paths: &mut [u8],
     walk: &mut [u8],
-) -> Begun {
+) -> Begun
+    ensures { λ r. ⌜ left r (now (paths .exit)) (now (walk .exit)) ≡ beginning (now (bytes .entry)) flags start end (now (paths .entry)) (now (walk .entry)) ⌝ }
+{
     let mut known = [0u8; AREA];
     begin_by(bytes, flags, start, end, &mut known, paths, walk)
 }
@@ -29,7 +35,10 @@ fn begin_by(
     known: &mut [u8],
     paths: &mut [u8],
     walk: &mut [u8],
-) -> Begun {
+) -> Begun
+    requires { ⌜ length (now known) ≡ areaSize ⌝ }
+    ensures { λ r. ⌜ left r (now (paths .exit)) (now (walk .exit)) ≡ beginning (now (bytes .entry)) flags start end (now (paths .entry)) (now (walk .entry)) ⌝ }
+{
     match rules::bind(bytes, flags, known) {
         Bound::Refused(r) => Begun::Refused(r),
         Bound::Known(count) => {

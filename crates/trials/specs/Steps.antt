@@ -1,0 +1,67 @@
+-- The steps of the record.
+use Prim.Native.Nat.{ℕ, suc, _+_, _<_}
+use Rattle.planner.specs.declared.Outcome.{Outcome}
+use Rattle.planner.specs.declared.Outcome.the-variants.{Walk, Nothing, Refused}
+use Rattle.planner.specs.Planning.{longest}
+use Rattle.trials.specs.declared.Record.{Record}
+
+-- Trials begin with that many forbidden paths known; there is no plan yet.
+abbrev pub fresh : ℕ → ℕ → ℕ → Record
+fresh start end known =
+    record { stage = 2; start = start; end = end; known = known; first = known; failed = 0; passed = 0; litres = 0; length = 0 }
+
+-- A plan, or none (01: in stage 2 length and litres are 0).
+abbrev pub withPlan : Record → ℕ → ℕ → ℕ → Record
+withPlan r stage litres length =
+    record {
+      stage = stage;
+      start = r .start;
+      end = r .end;
+      known = r .known;
+      first = r .first;
+      failed = r .failed;
+      passed = r .passed;
+      litres = litres;
+      length = length;
+    }
+
+abbrev pub replanned : Record → Outcome → Record
+replanned r (Walk weight hops) = withPlan r 0 weight (hops + 1)
+replanned r Nothing = withPlan r 2 0 0
+replanned r (Refused x) = withPlan r 2 0 0
+
+-- The length fits the record.
+abbrev pub Counted : Outcome → Type 0
+Counted (Walk weight hops) = hops < longest
+Counted Nothing = Unit
+Counted (Refused x) = Unit
+
+-- Passed: stage 1, passed becomes 1.
+abbrev pub passedOf : Record → Record
+passedOf r =
+    record {
+      stage = 1;
+      start = r .start;
+      end = r .end;
+      known = r .known;
+      first = r .first;
+      failed = r .failed;
+      passed = 1;
+      litres = r .litres;
+      length = r .length;
+    }
+
+-- Failed: one more forbidden path is known, failed grows by 1.
+abbrev pub failedOf : Record → Record
+failedOf r =
+    record {
+      stage = r .stage;
+      start = r .start;
+      end = r .end;
+      known = suc (r .known);
+      first = r .first;
+      failed = suc (r .failed);
+      passed = r .passed;
+      litres = r .litres;
+      length = r .length;
+    }
