@@ -6,6 +6,7 @@ pub mod Count
 pub mod Cost
 pub mod Greedy
 pub mod Short
+pub mod Chosen
 pub mod Certificate
 pub mod Sums
 pub mod Area

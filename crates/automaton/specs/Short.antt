@@ -22,27 +22,27 @@ abbrev pub trace : List (List ℕ) → List ℕ → List ℕ → List (List ℕ)
 trace F q [] = q ∷ []
 trace F q (v ∷ c) = q ∷ trace F (go F q v) c
 
-length-trace : (F : List (List ℕ)) (q c : List ℕ) → length (trace F q c) ≡ suc (length c)
+pub length-trace : (F : List (List ℕ)) (q c : List ℕ) → length (trace F q c) ≡ suc (length c)
 length-trace F q [] = refl
 length-trace F q (v ∷ c) = ap suc (length-trace F (go F q v) c)
 
 module _ (g : Graph) (F : List (List ℕ)) (t : ℕ) where
-  -- From each state of a walk the rest of the walk goes on, and costs no more.
-  rest-of : (c q p : List ℕ) → List·Memᴰ p (trace F q c) → Follows g F t q c → (d : List ℕ) × Follows g F t p d × (length d ≤ length c) × (weightFrom g (latest p) d ≤ weightFrom g (latest q) c)
+  -- From each state of a walk the rest of the walk goes on, and costs no more. It comes to no state twice if the walk does not.
+  pub rest-of : (c q p : List ℕ) → List·Memᴰ p (trace F q c) → Follows g F t q c → (d : List ℕ) × Follows g F t p d × (length d ≤ length c) × (weightFrom g (latest p) d ≤ weightFrom g (latest q) c) × (Distinct (trace F q c) → Distinct (trace F p d))
   rest-of [] q p (List·Memᴰ·tail m) f = absurd (List·Memᴰ·not-nil m)
-  rest-of [] q p (List·Memᴰ·head e) f = ([], rw e f, omega arith, omega arith)
-  rest-of (v ∷ c) q p (List·Memᴰ·head e) f = (v ∷ c, rw e f, omega arith, rw e (omega arith))
+  rest-of [] q p (List·Memᴰ·head e) f = ([], rw e f, omega arith, omega arith, λ x. (List·Memᴰ·not-nil, tt))
+  rest-of (v ∷ c) q p (List·Memᴰ·head e) f = (v ∷ c, rw e f, omega arith, rw e (omega arith), λ x. rw e x)
   rest-of (v ∷ c) q p (List·Memᴰ·tail m) f =
       let r = rest-of c (go F q v) p m (f .1) in
       let light : weightFrom g (latest p) (r .0) ≤ weightFrom g v c = rw latest-go at (r .3) in
-      (r .0, r .1, omega (arith, r .2), omega arith)
+      (r .0, r .1, omega (arith, r .2), omega arith, λ x. r .4 (x .1))
 
   -- A walk that costs least comes to no state twice: the rest from the second time would cost less.
   least-distinct : (c q : List ℕ) → Follows g F t q c → ((d : List ℕ) → Follows g F t q d → costOf g q c ≤ᶜ costOf g q d) → Distinct (trace F q c)
   least-distinct [] q f h = (List·Memᴰ·not-nil, tt)
   least-distinct (v ∷ c) q f h = (λ m. again (rest-of c (go F q v) q m (f .1)), least-distinct c (go F q v) (f .1) (λ d f′. rw latest-go (via-cancel (arcWeight g (latest q) v) (h (v ∷ d) (f .0, f′)))))
     where
-      again : (d : List ℕ) × Follows g F t q d × (length d ≤ length c) × (weightFrom g (latest q) d ≤ weightFrom g (latest (go F q v)) c) → ⊥
+      again : (d : List ℕ) × Follows g F t q d × (length d ≤ length c) × (weightFrom g (latest q) d ≤ weightFrom g (latest (go F q v)) c) × (Distinct (trace F (go F q v) c) → Distinct (trace F q d)) → ⊥
       again r = dearer (h (r .0) (r .1))
         where
           light : weightFrom g (latest q) (r .0) ≤ weightFrom g v c
@@ -52,7 +52,7 @@ module _ (g : Graph) (F : List (List ℕ)) (t : ℕ) where
           dearer (inl p) = omega (arith, light)
           dearer (inr p) = omega (arith, p .1, r .2)
 
-  trace-states : (c q : List ℕ) → State F q → latest q < g .count → Follows g F t q c → (p : List ℕ) → List·Memᴰ p (trace F q c) → State F p × (latest p < g .count)
+  pub trace-states : (c q : List ℕ) → State F q → latest q < g .count → Follows g F t q c → (p : List ℕ) → List·Memᴰ p (trace F q c) → State F p × (latest p < g .count)
   trace-states [] q s b f p (List·Memᴰ·head e) = rw e (s, b)
   trace-states [] q s b f p (List·Memᴰ·tail m) = absurd (List·Memᴰ·not-nil m)
   trace-states (v ∷ c) q s b f p (List·Memᴰ·head e) = rw e (s, b)

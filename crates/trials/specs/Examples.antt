@@ -7,6 +7,7 @@ use native.Mathlib.Omega.{arith}
 use lib.ListN.{length, replicate}
 use Rattle.walks.specs.BookA.{bookA}
 use Rattle.walks.specs.Avoid.{occurs→Occurs}
+use Rattle.walks.specs.Feasible.{isFeasible}
 use Rattle.book.specs.declared.Refusal.the-variants.{Ended, NotStanding}
 use Rattle.book.specs.Book.{simple, names}
 use Rattle.book.specs.Tables.{entries}
@@ -14,7 +15,7 @@ use Rattle.automaton.specs.Sums.{marks-3, named-123, named-13}
 use Rattle.rules.specs.Binding.{once}
 use Rattle.rules.specs.Area.{areaSize}
 use Rattle.planner.specs.Planning.{longest}
-use Rattle.trials.specs.Trials.{passed, failed, State, standing, Plan, Planner, holding, beginRefusal, Begin, begun, stateAfter, EachAccepted, after, run, refusal, takes, isValid, isForbiddenSet, isFeasible, isRecord}
+use Rattle.trials.specs.Trials.{passed, failed, State, standing, Plan, Planner, holding, beginRefusal, Begin, begun, stateAfter, EachAccepted, after, run, refusal, takes, isValid, isForbiddenSet, isRecord}
 use Rattle.trials.specs.Tests.{isForbiddenSet→}
 use Rattle.trials.specs.Lacking.{lacking}
 use Rattle.trials.specs.Oracle.{OracleSet, TrueOracle, TrueTo}

@@ -5,21 +5,22 @@ use mathlib.Core.Bool.{Bool, true, false, not, cond, _&&_}
 use mathlib.Core.List.{List, [], _∷_, List·Memᴰ, List·Memᴰ·head, List·Memᴰ·tail, Memᴰ·cast}
 use mathlib.Core.Logic.{_≢_}
 use lib.Dec.{T, eqb, ltb, T-not, not-T, leb→le, le→leb, ltb→lt, lt→ltb, eqb→eq, eqb-refl}
-use lib.ListN.{length, getD}
+use lib.ListN.{length}
 use borrow.Author.Tests.{eqb-true, eqb-false}
 use lib.Ieee.Fits.{and-i, and-l, and-r}
 use Rattle.lists.specs.Distinct.{Distinct}
 use Rattle.lists.specs.Test.{conj, all, all→each, any, any→some, some→any}
 use Rattle.walks.specs.Graph.{Graph}
-use Rattle.walks.specs.Walk.{isWalk→Walk, Walk→isWalk, weightOf, hops}
-use Rattle.walks.specs.Avoid.{same, same→≡, same-refl, avoids→Avoids, Avoids→avoids}
+use Rattle.walks.specs.Walk.{weightOf}
+use Rattle.walks.specs.Avoid.{same, same→≡, same-refl}
 use Rattle.walks.specs.Best.{Feasible}
+use Rattle.walks.specs.Feasible.{isFeasible, isFeasible→Feasible, Feasible→isFeasible}
 use Rattle.book.specs.Book.{All, IsPath, VerticesOnce, simple, names}
 use Rattle.book.specs.BookLaws.{simple-below, simple-once}
 use Rattle.rules.specs.Binding.{once}
 use Rattle.rules.specs.Area.{mostPaths}
 use Rattle.planner.specs.Planning.{longest}
-use Rattle.trials.specs.Trials.{State, standing, passedIn, takes, ForbiddenSet, Valid, isForbiddenSet, isFeasible, isValid, isRecord}
+use Rattle.trials.specs.Trials.{State, standing, passedIn, takes, ForbiddenSet, Valid, isForbiddenSet, isValid, isRecord}
 
 pub T→true : (b : Bool) → T b → b ≡ true
 T→true true t = refl
@@ -103,22 +104,6 @@ module _ (count : ℕ) (F : List (List ℕ)) where
   unfolding isForbiddenSet
   →isForbiddenSet h =
       search (conj, le→leb (length F) mostPaths (h .few), Distinct→once F (h .distinct), each→all (takes count) F (h .taken))
-
-module _ (g : Graph) (F : List (List ℕ)) (s t : ℕ) (w : List ℕ) where
-  pub isFeasible→Feasible : T (isFeasible g F s t w) → Feasible g F s t w
-  unfolding isFeasible
-  isFeasible→Feasible h =
-      record {
-        walk = isWalk→Walk w (search conj);
-        starts = eqb→eq (getD w 0 0) s (search conj);
-        ends = eqb→eq (getD w (hops w) 0) t (search conj);
-        clear = avoids→Avoids F w (search conj);
-      }
-
-  pub Feasible→isFeasible : Feasible g F s t w → T (isFeasible g F s t w)
-  unfolding isFeasible
-  Feasible→isFeasible f =
-      search (conj, Walk→isWalk w (f .walk), eq→eqb (getD w 0 0) s (f .starts), eq→eqb (getD w (hops w) 0) t (f .ends), Avoids→avoids F w (f .clear))
 
 module _ (g : Graph) (σ : State) where
   -- the last of isValid's tests

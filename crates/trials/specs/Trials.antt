@@ -6,13 +6,14 @@ use mathlib.Core.List.{List, [], _∷_, _++_, List·Memᴰ}
 use mathlib.Core.Logic.{_≢_}
 use mathlib.Core.Option.{Option, none, some}
 use lib.Dec.{T, eqb, leb, ltb}
-use lib.ListN.{length, getD, take, drop}
+use lib.ListN.{length, take, drop}
 use Rattle.lists.specs.Distinct.{Distinct}
 use Rattle.lists.specs.Test.{all}
 use Rattle.walks.specs.Graph.{Graph}
-use Rattle.walks.specs.Walk.{isWalk, weightOf, hops}
-use Rattle.walks.specs.Avoid.{occurs, avoids}
+use Rattle.walks.specs.Walk.{weightOf}
+use Rattle.walks.specs.Avoid.{occurs}
 use Rattle.walks.specs.Best.{Feasible, Best, None}
+use Rattle.walks.specs.Feasible.{isFeasible}
 use Rattle.book.specs.declared.Refusal.{Refusal}
 use Rattle.book.specs.declared.Kind.the-variants.{Path}
 use Rattle.book.specs.Refusal.{refusalOf}
@@ -87,9 +88,6 @@ pub record Valid (g : Graph) (σ : State) : Type 0 where
 -- The tests of both; specs/Tests.antt proves that they decide them.
 unfoldable pub isForbiddenSet : ℕ → List (List ℕ) → Bool
 isForbiddenSet count F = leb (length F) mostPaths && once F && all (takes count) F
-
-unfoldable pub isFeasible : Graph → List (List ℕ) → ℕ → ℕ → List ℕ → Bool
-isFeasible g F s t w = isWalk g w && eqb (getD w 0 0) s && eqb (getD w (hops w) 0) t && avoids F w
 
 -- The record of a state whose forbidden set is one.
 unfoldable pub isRecord : Graph → State → Bool

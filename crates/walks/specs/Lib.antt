@@ -3,4 +3,5 @@ pub mod Walk
 pub mod Avoid
 pub mod Order
 pub mod Best
+pub mod Feasible
 pub mod BookA
