@@ -1,5 +1,4 @@
 pub mod Trials
-pub mod Chosen
 pub mod Reports
 pub mod Steps
 pub mod Operations

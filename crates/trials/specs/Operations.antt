@@ -14,7 +14,7 @@ use Rattle.rules.specs.Area.{areaSize, spelled, valid}
 use Rattle.trials.specs.declared.Record.{Record}
 use Rattle.trials.specs.declared.Begun.{Begun}
 use Rattle.trials.specs.declared.Reported.{Reported}
-use Rattle.trials.specs.Chosen.{chosen}
+use Rattle.automaton.specs.Chosen.{chosen}
 use Rattle.trials.specs.Reports.{reportsOf}
 use Rattle.trials.specs.Trials.{Report, State, pathArea, areasFit, beginRefusal, isRecord, isNamed, hasRoom, begin, step, run}
 
