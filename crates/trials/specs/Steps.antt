@@ -1,5 +1,6 @@
 -- The steps of the record.
-use Prim.Native.Nat.{ℕ, suc, _+_, _<_}
+use Prim.Native.Nat.{ℕ, _+_, _<_}
+use mathlib.Core.Path.{_≡_, subst}
 use Rattle.planner.specs.declared.Outcome.{Outcome}
 use Rattle.planner.specs.declared.Outcome.the-variants.{Walk, Nothing, Refused}
 use Rattle.planner.specs.Planning.{longest}
@@ -58,10 +59,13 @@ failedOf r =
       stage = r .stage;
       start = r .start;
       end = r .end;
-      known = suc (r .known);
+      known = r .known + 1;
       first = r .first;
-      failed = suc (r .failed);
+      failed = r .failed + 1;
       passed = r .passed;
       litres = r .litres;
       length = r .length;
     }
+
+pub counted-walk : (o : Outcome) (weight hops : ℕ) → o ≡ Walk weight hops → Counted o → hops < longest
+counted-walk o weight hops e h = subst Counted e h
