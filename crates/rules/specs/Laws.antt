@@ -14,19 +14,17 @@ use Rattle.book.specs.declared.Refusal.{Refusal}
 use Rattle.book.specs.declared.Refusal.the-variants.{NotAWalk}
 use Rattle.book.specs.Refusal.{refusalOf}
 use Rattle.book.specs.Book.{RuleSet, Book, All, IsPath, graph}
-use Rattle.book.specs.BookLaws.{reading-is-book, all-map}
+use Rattle.book.specs.BookLaws.{reading-is-book}
 use Rattle.book.specs.Reading.{Reading, reading}
-use Rattle.book.specs.Tables.{entries}
 use Rattle.rules.specs.declared.Checked.{Checked}
 use Rattle.rules.specs.declared.Checked.the-variants.{Clear}
 use Rattle.rules.specs.Binding.{applies, bound, known, once}
 use Rattle.rules.specs.Area.{areaSize, written, spelled, valid}
-use Rattle.book.specs.EntryLaws.{length-padded, length-entries}
 use Rattle.rules.specs.Checking.{checkable, occurrence}
 use Rattle.rules.specs.Operations.{refusalIn, bookIn, tests, Binding, outcome, bindingOf, binding, areaAfter, verdict, checkingOf, checking}
 use Rattle.rules.specs.Sets.{listed→distinct, distinct→listed}
 use Rattle.rules.specs.BindingLaws.{known-few, known-paths, known-once}
-use Rattle.rules.specs.ValidLaws.{valid→Valid, written-valid, written-spells}
+use Rattle.rules.specs.ValidLaws.{valid→Valid, written-length, written-valid, written-spells}
 use Rattle.rules.specs.CheckLaws.{clear→Avoids, Avoids→clear}
 
 -- ---- the known paths are those of the rule sets that apply
@@ -113,7 +111,7 @@ module _ (s : List ℕ) (flags : ℕ) (area : List ℕ) where
           let few : length F ≤ 256 = subst (λ G. length G ≤ 256) F-is (known-few flags b well) in
           let proper : All (IsPath (b .count)) F = subst (All (IsPath (b .count))) F-is (known-paths flags b well) in
           let different : once F ≡ true = ap once (sym F-is) ∙ known-once flags b well in
-          let full : length (written F) ≡ areaSize = length-padded areaSize (entries F) (omega (arith, length-entries F (all-map (λ p h. h .eight) F proper))) in
+          let full = written-length (b .count) F few proper different (drop areaSize area) in
           record {
             book = b;
             read = read;

@@ -100,6 +100,9 @@ module _ (v : ℕ) (F : List (List ℕ)) (few : length F ≤ 256) (proper : All 
   short : All Short F
   short = all-map (λ p h. h .eight) F proper
 
+  pub written-length : length (written F) ≡ areaSize
+  written-length = length-padded areaSize (entries F) (omega (arith, length-entries F short))
+
   after : List ℕ
   after = replicate (areaSize - length (entries F)) 0 ++ rest
 
@@ -113,7 +116,7 @@ module _ (v : ℕ) (F : List (List ℕ)) (few : length F ≤ 256) (proper : All 
       let every : all (isEntry v) (blocks (length F) (written F ++ rest)) ≡ true =
       ap (λ t. all (isEntry v) (blocks (length F) t)) (append-assoc (entries F) _ rest) ∙ ap (all (isEntry v)) (blocks-entries F after short) ∙ all-entries v F proper in
       let front : take areaSize (written F ++ rest) ≡ written (spelled (length F) (written F ++ rest)) =
-      take-at (written F) rest areaSize (length-padded areaSize (entries F) (omega (arith, length-entries F short))) ∙ ap written (sym written-spells) in
+      take-at (written F) rest areaSize written-length ∙ ap written (sym written-spells) in
       four-hold (leb (length F) 256) _ _ _ (le-leb _ _ few) every (ap once written-spells ∙ different) (true-same _ _ front)
     where
       four-hold : (a b c d : Bool) → a ≡ true → b ≡ true → c ≡ true → d ≡ true → a && b && c && d ≡ true

@@ -16,7 +16,8 @@ use Rattle.walks.specs.Best.{Best, None}
 use Rattle.book.specs.declared.Refusal.{Refusal}
 use Rattle.rules.specs.Area.{mostPaths, areaSize}
 use Rattle.planner.specs.Planning.{longest}
-use Rattle.trials.specs.Trials.{Report, passed, failed, State, standing, takes, ForbiddenSet, Valid, Planned, Plan, Planner, refusal, overlaid, holding, step, unless, after, run, accepted, EachAccepted, named, failures, passes, replanned, Begin, begun}
+use Rattle.automaton.specs.Chosen.{Decided}
+use Rattle.trials.specs.Trials.{Report, passed, failed, State, standing, takes, ForbiddenSet, Valid, Plan, Planner, refusal, overlaid, holding, step, unless, after, run, accepted, EachAccepted, named, failures, passes, replanned, Begin, begun}
 use Rattle.trials.specs.Lacking.{distinct-snoc}
 use Rattle.trials.specs.Accepted.{begin-accepted, Accepts, accepts}
 
@@ -98,7 +99,7 @@ module _
     (sum : length F ≡ first + failures)
     (long : longest ≤ length area)
   where
-    planned : (p : Option (List ℕ)) → Planned g F s t p → Fresh g F s t area (holding g p F s t first failures beyond area)
+    planned : (p : Option (List ℕ)) → Decided g F s t p → Fresh g F s t area (holding g p F s t first failures beyond area)
     planned none n =
         record {
           valid =

@@ -2,6 +2,7 @@ pub mod Trials
 pub mod Reports
 pub mod Steps
 pub mod Operations
+pub mod Replanning
 pub mod Judging
 pub mod Replay
 pub mod Tests

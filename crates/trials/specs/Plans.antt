@@ -5,7 +5,8 @@ use mathlib.Core.List.{List}
 use mathlib.Core.Option.{Option, none, some}
 use Rattle.walks.specs.Graph.{Graph}
 use Rattle.walks.specs.Best.{Best, None, Best·unique, Best·not-None}
-use Rattle.trials.specs.Trials.{ForbiddenSet, Planned, Plan, Planner}
+use Rattle.automaton.specs.Chosen.{Decided}
+use Rattle.trials.specs.Trials.{ForbiddenSet, Plan, Planner}
 
 -- A planner's answer is the best walk where there is one, and none where there is none.
 module _
@@ -15,20 +16,20 @@ module _
     pub plan-best : {w : List ℕ} → Best g F s t w → plan F s t ≡ some w
     plan-best {w} b = go (plan F s t) (planner .plans F s t set start end)
       where
-        go : (p : Option (List ℕ)) → Planned g F s t p → p ≡ some w
+        go : (p : Option (List ℕ)) → Decided g F s t p → p ≡ some w
         go none n = absurd (Best·not-None b n)
         go (some v) (c, short) = ap some (Best·unique c b)
 
     pub plan-none : None g F s t → plan F s t ≡ none
     plan-none n = go (plan F s t) (planner .plans F s t set start end)
       where
-        go : (p : Option (List ℕ)) → Planned g F s t p → p ≡ none
+        go : (p : Option (List ℕ)) → Decided g F s t p → p ≡ none
         go none _ = refl
         go (some v) (c, short) = absurd (Best·not-None c n)
 
     pub planners-agree : {plan′ : Plan} → Planner g plan′ → plan F s t ≡ plan′ F s t
     planners-agree {plan′} other = go (plan′ F s t) (other .plans F s t set start end)
       where
-        go : (p : Option (List ℕ)) → Planned g F s t p → plan F s t ≡ p
+        go : (p : Option (List ℕ)) → Decided g F s t p → plan F s t ≡ p
         go none n = plan-none n
         go (some v) (c, short) = plan-best c

@@ -19,6 +19,7 @@ use Rattle.book.specs.declared.Kind.the-variants.{Path}
 use Rattle.book.specs.Refusal.{refusalOf}
 use Rattle.book.specs.Book.{simple}
 use Rattle.book.specs.Reading.{fits}
+use Rattle.automaton.specs.Chosen.{Decided}
 use Rattle.rules.specs.Binding.{once}
 use Rattle.rules.specs.Area.{mostPaths, areaSize, written}
 use Rattle.planner.specs.Planning.{longest}
@@ -152,17 +153,12 @@ refusal g σ ρ =
     })
 
 -- ---- the three rules
--- What planning answers (01, 'Planning'): the best walk, which is no longer than the area, or none.
-abbrev pub Planned : Graph → List (List ℕ) → ℕ → ℕ → Option (List ℕ) → Type 0
-Planned g F s t none = None g F s t
-Planned g F s t (some w) = Best g F s t w × (length w ≤ longest)
-
 -- A plan for each forbidden set, start and end; a planner of g answers rightly wherever planning is not refused.
 abbrev pub Plan : Type 0
 Plan = List (List ℕ) → ℕ → ℕ → Option (List ℕ)
 
 pub record Planner (g : Graph) (plan : Plan) : Type 0 where
-  pub plans : (F : List (List ℕ)) (s t : ℕ) → ForbiddenSet (g .count) F → s < g .count → t < g .count → Planned g F s t (plan F s t)
+  pub plans : (F : List (List ℕ)) (s t : ℕ) → ForbiddenSet (g .count) F → s < g .count → t < g .count → Decided g F s t (plan F s t)
 
 -- A plan as the record and the line-up area hold it: bytes after the plan are untouched, and on none all of them; in stage 2 length and
 -- litres are 0.
