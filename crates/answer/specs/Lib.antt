@@ -1,0 +1,8 @@
+pub mod Text
+pub mod Writing
+pub mod Answer
+pub mod TextLaws
+pub mod AnswerLaws
+pub mod BookSize
+pub mod LongInput
+pub mod Examples

@@ -1,0 +1,11 @@
+// Plans the case on standard input: marks in two bytes (high byte first), start, end, and a book.
+use libc::STDIN_FILENO;
+use libc::STDOUT_FILENO;
+
+fn main() {
+    let mut input = io::large_buffer();
+    let n = io::read_full(STDIN_FILENO, &mut input);
+    let mut out = [0u8; answer::MOST];
+    let size = answer::answer(&input[..n], &mut out);
+    io::write_all(STDOUT_FILENO, &out[..size]);
+}
