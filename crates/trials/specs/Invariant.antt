@@ -145,6 +145,23 @@ module _
     fresh : Fresh g F s t area (holding g (plan F s t) F s t first failures beyond area)
     fresh = planned (plan F s t) (planner .plans F s t set start end′)
 
+-- A named path that stands in the walk is not known already: the set with it is one that 9 takes.
+pub one-more : (g : Graph) (σ : State) (r : List ℕ) → Accepts g σ (failed r) → ForbiddenSet (g .count) (σ .forbidden ++ (r ∷ []))
+one-more g σ r a =
+    let v = a .valid in
+    let open-stage : σ .rec .stage ≢ 2 = λ e. omega (arith, a .stage) in
+    let n = T-and (takes (g .count) r) (occurs r (standing σ)) (a .named) in
+    let stands = occurs→Occurs r (standing σ) (n .1) in
+    let room = ltb→lt (σ .rec .known) mostPaths (a .room) in
+    record {
+      few = rw length-append (omega (arith, v .known));
+      distinct = distinct-snoc (σ .forbidden) r (v .set .distinct) (λ m. v .walk open-stage .clear r m stands);
+      taken =
+          λ q m.
+          ⊎-elim (v .set .taken q) (λ k. subst (λ (x : List ℕ). T (takes (g .count) x)) (sym (List·Memᴰ·eq-of-singleton k)) (n .0))
+          (List·Memᴰ·append-cases (σ .forbidden) m);
+    }
+
 -- ---- the invariant
 module _ (b : Begin) where
   open Begin b using (graph as g, plan, planner, bound as F₀, bound-set as bound, start as s, end as t, paths, area)
@@ -217,29 +234,12 @@ module _ (b : Begin) where
         nothing = λ e. absurd (omega arith);
       }
 
-  -- A named path that stands in the walk is not known already: the set with it is one that 9 takes.
-  one-more : (done : List Report) (σ : State) (r : List ℕ) → Invariant done σ → Accepts g σ (failed r) → ForbiddenSet (g .count) (σ .forbidden ++ (r ∷ []))
-  one-more done σ r c a =
-      let v = c .valid in
-      let open-stage : σ .rec .stage ≢ 2 = λ e. omega (arith, a .stage) in
-      let n = T-and (takes (g .count) r) (occurs r (standing σ)) (a .named) in
-      let stands = occurs→Occurs r (standing σ) (n .1) in
-      let room = ltb→lt (σ .rec .known) mostPaths (a .room) in
-      record {
-        few = rw length-append (omega (arith, v .known));
-        distinct = distinct-snoc (σ .forbidden) r (v .set .distinct) (λ m. v .walk open-stage .clear r m stands);
-        taken =
-            λ q m.
-            ⊎-elim (v .set .taken q) (λ k. subst (λ (x : List ℕ). T (takes (g .count) x)) (sym (List·Memᴰ·eq-of-singleton k)) (n .0))
-            (List·Memᴰ·append-cases (σ .forbidden) m);
-      }
-
   invariant-failed : (done : List Report) (σ : State) (r : List ℕ) → Invariant done σ → Accepts g σ (failed r)
       → Invariant (done ++ (failed r ∷ [])) (step g plan σ (failed r))
   invariant-failed done σ r c a =
       let v = c .valid in
       let F = σ .forbidden ++ (r ∷ []) in
-      let set = one-more done σ r c a in
+      let set = one-more g σ r a in
       let count : length F ≡ σ .rec .first + suc (σ .rec .failed) = rw length-append (omega (arith, v .known, v .sum)) in
       let r′ = σ .rec in
       let f = fresh planner F (r′ .start) (r′ .end) (r′ .first) (suc (r′ .failed)) (σ .beyond) (σ .area) set (v .start) (v .end) count (a .area-fits) in

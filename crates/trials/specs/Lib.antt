@@ -8,6 +8,7 @@ pub mod Replay
 pub mod Tests
 pub mod Plans
 pub mod Accepted
+pub mod OperationLaws
 pub mod Lacking
 pub mod Invariant
 pub mod Claim
