@@ -74,7 +74,7 @@ given-snoc (x ∷ xs) a t h e f =
     let no = or-false (eqb (x .tail) t && eqb (x .head) h) (given xs t h) (sym (given-cons x xs t h) ∙ e) in
     given-cons x (xs ++ (a ∷ [])) t h ∙ rw (no .0) (given-snoc xs a t h (no .1) f)
 
-other-pair : (p q t h : ℕ) → eqb p t && eqb q h ≡ false → eqb t p && eqb h q ≡ false
+pub other-pair : (p q t h : ℕ) → eqb p t && eqb q h ≡ false → eqb t p && eqb h q ≡ false
 other-pair p q t h e =
     ⊎-elim
     (λ y.
@@ -164,7 +164,7 @@ count-well-formed n b w first low high =
           (w .paths-proper);
     }
 
-arc-well-formed : (a : Arc) (b : Book) → WellFormed b → properArc (b .count) a ≡ true → given (b .arcs) (a .tail) (a .head) ≡ false
+pub arc-well-formed : (a : Arc) (b : Book) → WellFormed b → properArc (b .count) a ≡ true → given (b .arcs) (a .tail) (a .head) ≡ false
     → WellFormed (record { count = b .count; arcs = b .arcs ++ (a ∷ []); sets = b .sets })
 arc-well-formed a b w value once =
     record {

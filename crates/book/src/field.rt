@@ -123,7 +123,7 @@ fn vertex_count(bytes: &[u8], at: usize, counts: Counts) -> Answer
     })
 }
 
-fn proper_arc(vertices: usize, tail: usize, head: usize, weight: usize) -> bool
+pub fn proper_arc(vertices: usize, tail: usize, head: usize, weight: usize) -> bool
     ensures { λ r. ⌜ r ≡ properArc vertices (record { tail = tail; head = head; weight = weight }) ⌝ }
 {
     if vertices <= tail {

@@ -10,6 +10,7 @@ mod field;
 
 use field::field;
 use field::field_end;
+pub use field::proper_arc;
 pub use field::simple;
 
 // The refusals of 01, 1 to 13 in its order. A book's refusal holds the byte at which the field starts.

@@ -1,0 +1,5 @@
+pub mod Listing
+pub mod Standing
+pub mod StandingLaws
+pub mod SameBook
+pub mod Examples

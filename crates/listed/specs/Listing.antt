@@ -1,0 +1,46 @@
+-- The reading of a count and a list of arcs (01: the changeovers as a list of from, to and litres, with the count of grades) as a book
+-- without rule sets. A refusal carries the item's index, from 0.
+use Prim.Native.Nat.{ℕ, suc}
+use mathlib.Core.Bool.{not, _&&_}
+use mathlib.Core.List.{List, [], _∷_, _++_}
+use lib.Dec.{leb}
+use Rattle.walks.specs.Graph.{Arc}
+use Rattle.book.specs.declared.Refusal.the-variants.{Value, Repeated}
+use Rattle.book.specs.Refusal.{Test, firstFailure}
+use Rattle.book.specs.Book.{Book, given, properArc}
+use Rattle.book.specs.Reading.{Reading, accepted, andThen, outcome}
+use Rattle.listed.specs.declared.Arc.{Arc as Item}
+
+-- the arc of an item
+abbrev pub arcOf : Item → Arc
+arcOf a = record { tail = a .tail; head = a .head; weight = a .weight }
+
+-- 4: the count of vertices is within its limits; this comes before any item
+abbrev pub counting : ℕ → List Test
+counting n = record { holds = leb 1 n && leb n 64; refusal = Value 0 } ∷ []
+
+abbrev pub counted : ℕ → Reading
+counted n = outcome (firstFailure (counting n)) (record { count = n; arcs = []; sets = [] })
+
+-- The tests of the item at index i, in the book of the items before it: those of an arc's field. 4: an arc within the limits;
+-- 5: its pair has not been given.
+abbrev pub tests : Book → ℕ → Arc → List Test
+tests b i a =
+    record { holds = properArc (b .count) a; refusal = Value i }
+    ∷ record { holds = not (given (b .arcs) (a .tail) (a .head)); refusal = Repeated i }
+    ∷ []
+
+-- the book with one more arc
+abbrev pub added : Book → Arc → Book
+added b a = record { count = b .count; arcs = b .arcs ++ (a ∷ []); sets = b .sets }
+
+abbrev pub judged : Book → ℕ → Arc → Reading
+judged b i a = outcome (firstFailure (tests b i a)) (added b a)
+
+-- the items from index i on, after a book; the first bad one decides
+unfoldable pub items : ℕ → List Item → Book → Reading
+items i [] b = accepted b
+items i (x ∷ xs) b = andThen (judged b i (arcOf x)) (items (suc i) xs)
+
+abbrev pub listing : ℕ → List Item → Reading
+listing n xs = andThen (counted n) (items 0 xs)

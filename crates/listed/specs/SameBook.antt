@@ -1,0 +1,90 @@
+-- The plan from a list is the plan of the book with the same arcs (01: the plan is that of the book with the same changeovers).
+use Prim.Native.Nat.{ℕ, suc}
+use mathlib.Core.Path.{_≡_, refl, sym, ap, ap₂, subst, _∙_}
+use mathlib.Core.Bool.{true, false, cond, not, _&&_, _||_}
+use mathlib.Core.List.{List, [], _∷_, _++_, map, append-assoc, append-nil}
+use mathlib.Core.Option.{none, some}
+use borrow.Author.Tests.{le-leb, lt-ltb, ne-eqb}
+use lib.Dec.{eqb, leb}
+use Rattle.lists.specs.Test.{or-false}
+use Rattle.walks.specs.Graph.{Arc}
+use Rattle.book.specs.declared.Refusal.the-variants.{Value, Repeated}
+use Rattle.book.specs.Refusal.{refusalOf}
+use Rattle.book.specs.Book.{Book, All, IsArc, PairsOnce, given, graph, properArc}
+use Rattle.book.specs.BookLaws.{reading-is-book, given-cons, other-pair}
+use Rattle.book.specs.Reading.{accepted, andThen, outcome, reading}
+use Rattle.rules.specs.Area.{spelled}
+use Rattle.planner.specs.declared.Outcome.{Outcome}
+use Rattle.planner.specs.Planning.{PlanningIn, PlanningOf, Planning, tests}
+use Rattle.planner.specs.RuleSets.{planned-same}
+use Rattle.listed.specs.declared.Arc.{Arc as Item}
+use Rattle.listed.specs.Listing.{arcOf, judged, added, items, listing}
+
+-- the arcs of a list
+abbrev pub arcsOf : List Item → List Arc
+arcsOf xs = map arcOf xs
+
+-- what is an arc passes its test
+arc-passes : (n : ℕ) (a : Arc) → IsArc n a → properArc n a ≡ true
+arc-passes n a is =
+    ap₂ _&&_ (ap₂ _&&_ (ap₂ _&&_ (lt-ltb _ _ (is .tail-below)) (lt-ltb _ _ (is .head-below))) (ap not (ne-eqb _ _ (is .different)))) (le-leb _ _ (is .light))
+
+-- a pair that is given once is not given before
+given-after : (xs : List Arc) (a : Arc) (ys : List Arc) (t h : ℕ) → given (xs ++ (a ∷ ys)) t h ≡ false → eqb (a .tail) t && eqb (a .head) h ≡ false
+given-after [] a ys t h e = or-false (eqb (a .tail) t && eqb (a .head) h) (given ys t h) (sym (given-cons a ys t h) ∙ e) .0
+given-after (x ∷ xs) a ys t h e =
+    given-after xs a ys t h (or-false (eqb (x .tail) t && eqb (x .head) h) (given (xs ++ (a ∷ ys)) t h) (sym (given-cons x (xs ++ (a ∷ ys)) t h) ∙ e) .1)
+
+not-before : (xs : List Arc) (a : Arc) (ys : List Arc) → PairsOnce (xs ++ (a ∷ ys)) → given xs (a .tail) (a .head) ≡ false
+not-before [] a ys once = refl
+not-before (x ∷ xs) a ys once =
+    given-cons x xs (a .tail) (a .head)
+    ∙ ap₂ _||_ (other-pair (a .tail) (a .head) (x .tail) (x .head) (given-after xs a ys (x .tail) (x .head) (once .0))) (not-before xs a ys (once .1))
+
+-- the book with some more arcs
+abbrev more : Book → List Arc → Book
+more b as′ = record { count = b .count; arcs = b .arcs ++ as′; sets = b .sets }
+
+good-item : (b : Book) (i : ℕ) (a : Arc) → IsArc (b .count) a → given (b .arcs) (a .tail) (a .head) ≡ false → judged b i a ≡ accepted (added b a)
+good-item b i a is new =
+    ap₂ (λ x y. outcome (cond x (cond (not y) none (some (Repeated i))) (some (Value i))) (added b a)) (arc-passes (b .count) a is) new
+
+good-items : (b : Book) (i : ℕ) (xs : List Item) → All (IsArc (b .count)) (arcsOf xs) → PairsOnce (b .arcs ++ arcsOf xs)
+    → items i xs b ≡ accepted (more b (arcsOf xs))
+unfolding items
+good-items b i [] proper once = ap (λ l. accepted (record { count = b .count; arcs = l; sets = b .sets })) (sym (append-nil (b .arcs)))
+good-items b i (x ∷ xs) proper once =
+    let joined : (b .arcs ++ (arcOf x ∷ [])) ++ arcsOf xs ≡ b .arcs ++ (arcOf x ∷ arcsOf xs) = append-assoc (b .arcs) (arcOf x ∷ []) (arcsOf xs) in
+    ap (λ r. andThen r (items (suc i) xs)) (good-item b i (arcOf x) (proper .0) (not-before (b .arcs) (arcOf x) (arcsOf xs) once))
+    ∙ good-items (added b (arcOf x)) (suc i) xs (proper .1) (subst PairsOnce (sym joined) once)
+    ∙ ap (λ l. accepted (record { count = b .count; arcs = l; sets = b .sets })) joined
+
+-- The list of a book's arcs reads as that book without its rule sets.
+pub listed-book : (s : List ℕ) (b : Book) → reading s ≡ accepted b → (xs : List Item) → arcsOf xs ≡ b .arcs
+    → listing (b .count) xs ≡ accepted (record { count = b .count; arcs = b .arcs; sets = [] })
+listed-book s b read xs same =
+    let is = reading-is-book s b read in
+    let limits : leb 1 (b .count) && leb (b .count) 64 ≡ true = ap₂ _&&_ (le-leb _ _ (is .some-vertex)) (le-leb _ _ (is .well-formed .few-vertices)) in
+    ap (λ x. andThen (outcome (cond x none (some (Value 0))) (record { count = b .count; arcs = []; sets = [] })) (items 0 xs)) limits
+    ∙ good-items (record { count = b .count; arcs = []; sets = [] }) 0 xs
+    (subst (All (IsArc (b .count))) (sym same) (is .well-formed .arcs-proper)) (subst PairsOnce (sym same) (is .well-formed .pairs-once))
+    ∙ ap (λ l. accepted (record { count = b .count; arcs = l; sets = [] })) same
+
+-- Planning from a list is planning from a book of the same count and arcs, whatever its rule sets.
+pub from-book : (s : List ℕ) (b : Book) → reading s ≡ accepted b → (n : ℕ) (xs : List Item) → n ≡ b .count → arcsOf xs ≡ b .arcs
+    → (paths : List ℕ) (count start end : ℕ) (old : List ℕ) (r : Outcome) (new : List ℕ)
+    → PlanningOf (listing n xs) paths count start end old r new → Planning s paths count start end old r new
+from-book s b read n xs n-is same paths count start end old r new p =
+    let q : PlanningIn b paths count start end old r new =
+    subst (λ x. PlanningOf x paths count start end old r new) (ap (λ k. listing k xs) n-is ∙ listed-book s b read xs same) p in
+    subst (λ x. PlanningOf x paths count start end old r new) (sym read) q
+
+-- Under the same runs area the two have equal answers and equal bytes.
+pub same-plan : (s : List ℕ) (b : Book) → reading s ≡ accepted b → (n : ℕ) (xs : List Item) → n ≡ b .count → arcsOf xs ≡ b .arcs
+    → (paths : List ℕ) (count start end : ℕ) (old : List ℕ) (r r′ : Outcome) (new new′ : List ℕ)
+    → PlanningOf (listing n xs) paths count start end old r new → Planning s paths count start end old r′ new′ → (r ≡ r′) × (new ≡ new′)
+same-plan s b read n xs n-is same paths count start end old r r′ new new′ p p′ =
+    let in-book : (r : Outcome) (new : List ℕ) → Planning s paths count start end old r new → PlanningIn b paths count start end old r new =
+    λ r new q. subst (λ x. PlanningOf x paths count start end old r new) read q in
+    planned-same (refusalOf (tests b paths count start end old)) (graph b) (spelled count paths) (spelled count paths) (λ _ m. m) (λ _ m. m) start end old r r′ new new′
+    (in-book r new (from-book s b read n xs n-is same paths count start end old r new p)) (in-book r′ new′ p′)

@@ -1,0 +1,125 @@
+// Planning from a list of arcs.
+ghost use mathlib.Core.Path.{_≡_};
+ghost use lib.ListN.{replicate};
+ghost use Rattle.book.specs.Book.{Book};
+ghost use Rattle.book.specs.Reading.{Reading};
+ghost use Rattle.book.specs.Tables.{noArc};
+ghost use Rattle.planner.specs.Planning.{PlanningOf};
+ghost use Rattle.listed.specs.Listing.{arcOf, counted as Listing·counted, judged, listing};
+ghost use Rattle.listed.specs.Standing.{Holds, Stands, goesOn, verdictOf};
+use book::NO_ARC;
+use book::Refusal;
+use planner::Outcome;
+
+// An item of the list (01: a changeover, with its litres).
+pub struct Arc {
+    pub tail: u8,
+    pub head: u8,
+    pub weight: u32,
+}
+
+// What the count and the items so far come to.
+enum Verdict {
+    Good,
+    Refused(Refusal),
+}
+
+fn wide(x: u8) -> usize
+    ensures { λ r. ⌜ r ≡ x ⌝ }
+{
+    x as usize
+}
+
+// The count of vertices, before any item.
+fn counted(vertices: usize) -> Verdict
+    ensures { λ r. ⌜ r ≡ verdictOf (Listing·counted vertices) ⌝ }
+{
+    if vertices < 1 {
+        return Verdict::Refused(Refusal::Value(0));
+    }
+    if 64 < vertices {
+        return Verdict::Refused(Refusal::Value(0));
+    }
+    Verdict::Good
+}
+
+// Judges the item at index i after a book, and enters it into the table of weights.
+fn enter(vertices: usize, i: usize, arc: Arc, weights: &mut [u32; 4096]) -> Verdict
+    requires { ⌜ ((b : Book) × Holds vertices b (now weights)) ⌝ }
+    ensures { λ r. ⌜ ((b : Book) → Holds vertices b (now (weights .entry)) → Stands vertices (judged b i (arcOf arc)) r (now (weights .exit))) ⌝ }
+{
+    let tail = wide(arc.tail);
+    let head = wide(arc.head);
+    let weight = arc.weight as usize;
+    if !book::proper_arc(vertices, tail, head, weight) {
+        return Verdict::Refused(Refusal::Value(i));
+    }
+    let pair = tail * 64 + head;
+    if weights[pair] != NO_ARC {
+        return Verdict::Refused(Refusal::Repeated(i));
+    }
+    weights[pair] = arc.weight;
+    Verdict::Good
+}
+
+// Whether item i of n is still to be judged.
+fn more(verdict: Verdict, i: usize, n: usize) -> bool
+    ensures { λ r. ⌜ r ≡ goesOn verdict i n ⌝ }
+{
+    match verdict {
+        Verdict::Good => i < n,
+        Verdict::Refused(_) => false,
+    }
+}
+
+// Copies the items out one by one, and enters each into a blank table, up to the first bad one.
+fn load(vertices: usize, arcs: &[Arc], weights: &mut [u32; 4096]) -> Verdict
+    requires { ⌜ now weights ≡ replicate 4096 noArc ⌝ }
+    ensures { λ r. ⌜ Stands vertices (listing vertices (now (arcs .entry))) r (now (weights .exit)) ⌝ }
+{
+    let mut verdict = counted(vertices);
+    let mut i = 0;
+    while more(verdict, i, arcs.len()) {
+        verdict = enter(vertices, i, arcs[i], weights);
+        i += 1;
+    }
+    verdict
+}
+
+// Plans in the book that the list stands for.
+fn plan_loaded(
+    verdict: Verdict,
+    vertices: usize,
+    weights: &[u32; 4096],
+    paths: &[u8],
+    count: usize,
+    start: u8,
+    end: u8,
+    walk: &mut [u8],
+) -> Outcome
+    requires { ⌜ ((x : Reading) × Stands vertices x verdict (now weights)) ⌝ }
+    ensures { λ r. ⌜ ((x : Reading) → Stands vertices x verdict (now (weights .entry)) → PlanningOf x (now (paths .entry)) count start end (now (walk .entry)) r (now (walk .exit))) ⌝ }
+{
+    match verdict {
+        Verdict::Refused(r) => Outcome::Refused(r),
+        Verdict::Good => planner::plan_in(weights, vertices, paths, count, start, end, walk),
+    }
+}
+
+// Writes the best walk from start to end in the graph of that many vertices and those arcs into the front of the area `walk`, and
+// answers its weight and hops.
+pub fn plan_arcs(
+    vertices: usize,
+    arcs: &[Arc],
+    paths: &[u8],
+    count: usize,
+    start: u8,
+    end: u8,
+    walk: &mut [u8],
+) -> Outcome
+    ensures { λ r. ⌜ PlanningOf (listing vertices (now (arcs .entry))) (now (paths .entry)) count start end (now (walk .entry)) r (now (walk .exit)) ⌝ }
+{
+    let mut weights = [NO_ARC; 4096];
+    let verdict = load(vertices, arcs, &mut weights);
+    plan_loaded(verdict, vertices, &weights, paths, count, start, end, walk)
+}

@@ -1,0 +1,91 @@
+-- The standing walk, by what its tests say.
+use Prim.Native.Nat.{ℕ, _-_, _≤_}
+use mathlib.Core.Bool.{Bool, true, false, _&&_}
+use mathlib.Core.List.{List, [], _∷_, List·Memᴰ, List·Memᴰ·head, List·Memᴰ·tail}
+use mathlib.Core.Path.{_≡_, refl, sym, ap, _∙_}
+use native.Mathlib.Omega.{arith}
+use borrow.Author.Tests.{le-leb, eq-eqb, ne-eqb, eqb-true}
+use lib.Dec.{eqb}
+use lib.ListN.{length, getD}
+use Rattle.walks.specs.Graph.{Graph}
+use Rattle.walks.specs.Walk.{isWalk, weightOf, hops}
+use Rattle.walks.specs.Avoid.{avoids, avoids→Avoids, Avoids→avoids}
+use Rattle.walks.specs.Feasible.{isFeasible}
+use Rattle.book.specs.Book.{All, IsPath}
+use Rattle.rules.specs.declared.Checked.the-variants.{Clear}
+use Rattle.rules.specs.Area.{areaSize, spelled, valid}
+use Rattle.rules.specs.Checking.{checkable, occurrence}
+use Rattle.rules.specs.CheckLaws.{clear→Avoids, Avoids→clear}
+use Rattle.rules.specs.Sets.{iff, refuted}
+use Rattle.rules.specs.ValidLaws.{valid→Valid}
+use Rattle.planner.specs.Planning.{longest}
+use Rattle.trials.specs.Tests.{T→true, true→T}
+
+pub only-walk : (g : Graph) (w : List ℕ) → length w ≤ longest → checkable g w ≡ isWalk g w
+only-walk g w few = ap (λ x. x && isWalk g w) (le-leb _ _ few)
+
+-- the last vertex
+last-place : (w : List ℕ) → hops w ≡ length w - 1
+last-place [] = refl
+last-place (v ∷ w) = omega arith
+
+-- ---- clear of the forbidden paths of a valid area
+sizes : (v : ℕ) {F : List (List ℕ)} → All (IsPath v) F → (r : List ℕ) → List·Memᴰ r F → (2 ≤ length r) × (length r ≤ 8)
+sizes v h r (List·Memᴰ·head e) = (rw e (h .0 .two), rw e (h .0 .eight))
+sizes v h r (List·Memᴰ·tail m) = sizes v (h .1) r m
+
+module _ (vertices : ℕ) (paths : List ℕ) (known : ℕ) (w : List ℕ) where
+  pub is-clear : areaSize ≤ length paths → valid vertices paths known ≡ true → occurrence (spelled known paths) w ≡ Clear → avoids (spelled known paths) w ≡ true
+  is-clear long h e =
+      let held = valid→Valid vertices paths known long h in
+      T→true (avoids (spelled known paths) w) (Avoids→avoids (spelled known paths) w (clear→Avoids (spelled known paths) w (sizes vertices (held .paths)) e))
+
+  pub not-clear : (occurrence (spelled known paths) w ≡ Clear → ⊥) → avoids (spelled known paths) w ≡ false
+  not-clear ne =
+      refuted (avoids (spelled known paths) w)
+      (λ e. ne (Avoids→clear (spelled known paths) w (avoids→Avoids (spelled known paths) w (true→T (avoids (spelled known paths) w) e))))
+
+-- ---- the five tests
+five : Bool → Bool → Bool → Bool → Bool → Bool
+five walks starts ends clear weighs = walks && starts && ends && clear && weighs
+
+module _ (g : Graph) (F : List (List ℕ)) (s t : ℕ) (w : List ℕ) (litres : ℕ) where
+  by-five : (x y z u v : Bool) → isWalk g w ≡ x → eqb (getD w 0 0) s ≡ y → eqb (getD w (hops w) 0) t ≡ z → avoids F w ≡ u → eqb litres (weightOf g w) ≡ v
+      → isFeasible g F s t w && eqb litres (weightOf g w) ≡ five x y z u v
+  unfolding five isFeasible
+  by-five x y z u v p q r h k =
+      ap (λ b. five b (eqb (getD w 0 0) s) (eqb (getD w (hops w) 0) t) (avoids F w) (eqb litres (weightOf g w))) p
+      ∙ ap (λ b. five x b (eqb (getD w (hops w) 0) t) (avoids F w) (eqb litres (weightOf g w))) q
+      ∙ ap (λ b. five x y b (avoids F w) (eqb litres (weightOf g w))) r
+      ∙ ap (λ b. five x y z b (eqb litres (weightOf g w))) h
+      ∙ ap (five x y z u) k
+
+  pub no-walk : isWalk g w ≡ false → false ≡ isFeasible g F s t w && eqb litres (weightOf g w)
+  unfolding five
+  no-walk h = sym (by-five false _ _ _ _ h refl refl refl refl)
+
+  module _ (walks : isWalk g w ≡ true) where
+    pub other-start : (getD w 0 0 ≡ s → ⊥) → false ≡ isFeasible g F s t w && eqb litres (weightOf g w)
+    unfolding five
+    other-start h = sym (by-five true false _ _ _ walks (ne-eqb _ _ h) refl refl refl)
+
+    module _ (starts : getD w 0 0 ≡ s) where
+      pub other-end : (getD w (length w - 1) 0 ≡ t → ⊥) → false ≡ isFeasible g F s t w && eqb litres (weightOf g w)
+      unfolding five
+      other-end h =
+          sym (by-five true true false _ _ walks (eq-eqb _ _ starts) (ne-eqb (getD w (hops w) 0) t (λ e. h (sym (ap (λ n. getD w n 0) (last-place w)) ∙ e))) refl refl)
+
+      module _ (ends : getD w (length w - 1) 0 ≡ t) where
+        ends-there : eqb (getD w (hops w) 0) t ≡ true
+        ends-there = eq-eqb (getD w (hops w) 0) t (ap (λ n. getD w n 0) (last-place w) ∙ ends)
+
+        pub unclear : avoids F w ≡ false → false ≡ isFeasible g F s t w && eqb litres (weightOf g w)
+        unfolding five
+        unclear h = sym (by-five true true true false _ walks (eq-eqb _ _ starts) ends-there h refl)
+
+        pub feasible : avoids F w ≡ true → (weight : ℕ) → weight ≡ weightOf g w → eqb weight litres ≡ isFeasible g F s t w && eqb litres (weightOf g w)
+        unfolding five
+        feasible h weight is = sym (by-five true true true true (eqb weight litres) walks (eq-eqb _ _ starts) ends-there h (ap (eqb litres) (sym is) ∙ eqb-sym litres weight))
+          where
+            eqb-sym : (m n : ℕ) → eqb m n ≡ eqb n m
+            eqb-sym m n = iff (eqb m n) (eqb n m) (λ e. eq-eqb n m (sym (eqb-true m n e))) (λ e. eq-eqb m n (sym (eqb-true n m e)))
