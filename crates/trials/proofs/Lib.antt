@@ -4,3 +4,4 @@ pub mod Occurring
 pub mod Weighing
 pub mod Standing
 pub mod Recorded
+pub mod Reporting
