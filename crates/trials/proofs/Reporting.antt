@@ -78,6 +78,10 @@ module _ (b : Book) (r : Record) (paths walk : List ℕ) where
         ap (λ x. asked x (valid (b .count) paths (r .known) && isRecord g σ) (eqb (r .stage) 0) n m) (t .0)
         ∙ ap₂ (λ x y. asked true x y n m) (t .1) (t .2)
 
+    -- the standing walk lies within its area
+    pub walk-fits : r .length ≤ length walk
+    walk-fits = let a = passed-tests b r paths walk passed none-yet .accepts in omega (arith, a .valid .short, a .area-fits)
+
     pub has-passed : left (Reported.Accepted (passedOf r)) paths walk ≡ reportingOf (accepted b) r paths walk passed
     has-passed =
         ap (λ l. left (Reported.Accepted (passedOf r)) l walk) (sym (passed-tests b r paths walk passed none-yet .area-is)) ∙ answered passed none none-yet

@@ -1,7 +1,42 @@
--- `trials::report::failed_in` meets its contract.
+-- `trials::failed_in` meets its contract: the judgement, 12 and 13, and then the plan anew.
 use borrow.Author.Needs.{needs}
+use borrow.Author.Tests.{not-true, not-false, le-ltb, lt-ltb}
+use denote.Ref.{now}
+use mathlib.Core.Bool.{Bool, true, _&&_}
+use mathlib.Core.Option.{none}
+use mathlib.Core.Path.{_≡_, sym, ap, _∙_}
+use lib.ListN.{take}
+use lib.Seq.{length-take-le}
+use Rattle.walks.specs.Avoid.{occurs}
+use Rattle.book.specs.Book.{Book, graph}
+use Rattle.trials.specs.declared.judge.Judged.the-variants.{Standing}
+use Rattle.trials.specs.Trials.{failed, takes, isNamed}
+use Rattle.trials.specs.Operations.{stateOf, barred, reportRefusal}
+use Rattle.trials.specs.Judging.{IsOf, judgedAs}
+use Rattle.trials.proofs.Reporting.{refused, walk-fits, not-standing, no-room, ready}
 use Rattle.trials.proofs.report.failed_in.Statement.{statement}
 use Rattle.trials.proofs.report.failed_in.Tie as tie
+
+-- a walk stands
+stands : (c : tie.After-enum-told) → let a = c .before .before .before .before .before .before .before .before .args in (b : Book) → IsOf b (a .vertices) (now (a .weights)) → Standing ≡ judgedAs (barred b (a .rec) (now (a .paths)) (now (a .walk)) true true)
+stands c b of = sym (c .enum-told .given .1) ∙ c .before .before .judge .ensures b of
+
+-- 12, as the code tests it
+named-is : (c : tie.After-is-named) (x : Bool) → c .is-named .result ≡ x
+    → let a = c .before .before .before .before .before .before .before .before .before .before .args in
+    (b : Book) → IsOf b (a .vertices) (now (a .weights)) → isNamed (graph b) (stateOf (a .rec) (now (a .paths)) (now (a .walk))) (failed (now (a .named))) ≡ x
+named-is c x e b of =
+    let a = c .before .before .before .before .before .before .before .before .before .before .args in
+    ap (λ n. takes n (now (a .named)) && occurs (now (a .named)) (take (a .rec .length) (now (a .walk)))) (sym (of .vertices-are)) ∙ sym (c .is-named .ensures) ∙ e
+
+-- nothing is refused
+is-ready : (c : tie.Else2)
+    → let a = c .before .before .before .before .before .before .before .before .before .before .before .before .before .args in
+    (b : Book) → IsOf b (a .vertices) (now (a .weights)) → reportRefusal b (a .rec) (now (a .paths)) (now (a .walk)) (failed (now (a .named))) ≡ none
+is-ready c b of =
+    let a = c .before .before .before .before .before .before .before .before .before .before .before .before .before .args in
+    ready b (a .rec) (now (a .paths)) (now (a .walk)) (stands (c .before .before .before .before .before) b of) (now (a .named))
+    (named-is (c .before .before .before) _ (not-false (c .before .before .before .is-named .result) (c .before .before .if1 .left)) b of) (lt-ltb (a .rec .known) 256 (c .if2 .left))
 
 judge-requires : tie.Need-judge-requires
 judge-requires c κs = search needs
@@ -13,10 +48,18 @@ enum-told : tie.Need-enum-told
 enum-told c = search needs
 
 slice-reshare-prefix-is-named : tie.Need-slice-reshare-prefix-is-named
-slice-reshare-prefix-is-named c = search needs
+slice-reshare-prefix-is-named c =
+    let s = c .before .before .before .before .before .before .before .before in
+    let a = s .args in
+    let (b, of) = s .pre in
+    walk-fits b (a .rec) (now (a .paths)) (now (a .walk)) (stands c b of)
 
 slice-aggregate-is-named : tie.Need-slice-aggregate-is-named
-slice-aggregate-is-named c = search needs
+slice-aggregate-is-named c =
+    let s = c .before .before .before .before .before .before .before .before .before in
+    let a = s .args in
+    let (b, of) = s .pre in
+    sym (length-take-le _ _ (walk-fits b (a .rec) (now (a .paths)) (now (a .walk)) (stands (c .before) b of)))
 
 is-named-requires : tie.Need-is-named-requires
 is-named-requires c κs = search needs
@@ -28,7 +71,9 @@ same-length-2 : tie.Need-same-length-2
 same-length-2 c = search needs
 
 returns : tie.Need-returns
-returns c = search needs
+returns c =
+    let a = c .before .before .before .before .before .before .before .before .before .before .before .args in
+    λ b of. not-standing b (a .rec) (now (a .paths)) (now (a .walk)) (stands (c .before .before .before) b of) (now (a .named)) (named-is (c .before) _ (not-true (c .before .is-named .result) (c .if1 .taken)) b of)
 
 same-length-3 : tie.Need-same-length-3
 same-length-3 c = search needs
@@ -37,10 +82,16 @@ same-length-4 : tie.Need-same-length-4
 same-length-4 c = search needs
 
 returns-2 : tie.Need-returns-2
-returns-2 c = search needs
+returns-2 c =
+    let a = c .before .before .before .before .before .before .before .before .before .before .before .before .before .args in
+    λ b of.
+    no-room b (a .rec) (now (a .paths)) (now (a .walk)) (stands (c .before .before .before .before .before) b of) (now (a .named)) (named-is (c .before .before .before) _ (not-false (c .before .before .before .is-named .result) (c .before .before .if1 .left)) b of)
+    (le-ltb (a .rec .known) 256 (c .if2 .taken))
 
 replan-requires : tie.Need-replan-requires
-replan-requires c κs = search needs
+replan-requires c κs =
+    let (b, of) = c .before .before .before .before .before .before .before .before .before .before .before .before .before .before .before .pre in
+    (b, of, is-ready (c .before .before) b of)
 
 same-length-5 : tie.Need-same-length-5
 same-length-5 c = search needs
@@ -49,7 +100,9 @@ same-length-6 : tie.Need-same-length-6
 same-length-6 c = search needs
 
 returns-3 : tie.Need-returns-3
-returns-3 c = search needs
+returns-3 c =
+    let a = c .before .before .before .before .before .before .before .before .before .args in
+    λ b of. refused b (a .rec) (now (a .paths)) (now (a .walk)) _ (sym (c .before .r .given .1) ∙ c .before .before .before .judge .ensures b of) (failed (now (a .named)))
 
 same-length-7 : tie.Need-same-length-7
 same-length-7 c = search needs
@@ -58,7 +111,8 @@ same-length-8 : tie.Need-same-length-8
 same-length-8 c = search needs
 
 returns-4 : tie.Need-returns-4
-returns-4 c = search needs
+returns-4 c =
+    λ b of. c .before .before .before .before .replan .ensures b of (is-ready (c .before .before .before .before .before .before .before) b of)
 
 pub failed-in-spec : {M : Type 1} → statement M
 failed-in-spec =

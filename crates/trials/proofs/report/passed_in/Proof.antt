@@ -1,5 +1,12 @@
--- `trials::report::passed_in` meets its contract.
+-- `trials::passed_in` meets its contract: the judgement, and then the record's step.
 use borrow.Author.Needs.{needs}
+use denote.Ref.{now}
+use mathlib.Core.Path.{sym, ap, _∙_}
+use Rattle.trials.specs.declared.Record.{Record}
+use Rattle.trials.specs.declared.Reported.{Reported}
+use Rattle.trials.specs.Trials.{passed}
+use Rattle.trials.specs.Operations.{left}
+use Rattle.trials.proofs.Reporting.{refused, has-passed}
 use Rattle.trials.proofs.report.passed_in.Statement.{statement}
 use Rattle.trials.proofs.report.passed_in.Tie as tie
 
@@ -16,10 +23,16 @@ passed-requires : tie.Need-passed-requires
 passed-requires c κs = search needs
 
 returns : tie.Need-returns
-returns c = search needs
+returns c =
+    let a = c .before .before .before .before .before .before .args in
+    λ b of. refused b (a .rec) (now (a .paths)) (now (a .walk)) _ (sym (c .before .r .given .1) ∙ c .before .before .before .judge .ensures b of) passed
 
 returns-2 : tie.Need-returns-2
-returns-2 c = search needs
+returns-2 c =
+    let a = c .before .before .before .before .before .before .args in
+    λ b of.
+    ap (λ (z : Record). left (Reported.Accepted z) (now (a .paths)) (now (a .walk))) (c .passed .ensures)
+    ∙ has-passed b (a .rec) (now (a .paths)) (now (a .walk)) (sym (c .before .enum-told .given .1) ∙ c .before .before .before .judge .ensures b of)
 
 pub passed-in-spec : {M : Type 1} → statement M
 passed-in-spec =
