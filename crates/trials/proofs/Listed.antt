@@ -7,10 +7,11 @@ use native.Mathlib.Nat.{add-zero}
 use native.Mathlib.Omega.{arith}
 use borrow.Author.Tests.{lt-ltb, le-ltb, le-leb, lt-leb, leb-true, ltb-true, eq-eqb, ne-eqb}
 use lib.Dec.{eqb, leb, ltb}
-use lib.ListN.{length, getD, drop, length-drop}
-use lib.Seq.{getD-drop}
+use lib.ListN.{length, getD, take, drop, length-drop}
+use lib.Seq.{getD-drop, drop-drop}
 use Rattle.lists.specs.Test.{and-true}
-use Rattle.trials.specs.Reports.{isReport, sizeOf}
+use Rattle.trials.specs.Trials.{passed, failed}
+use Rattle.trials.specs.Reports.{isReport, reportIn, sizeOf}
 
 -- n bytes are left, of which x and y are the first
 abbrev test : ℕ → ℕ → ℕ → Bool
@@ -74,3 +75,11 @@ module _ (l : List ℕ) (at : ℕ) where
 
     pub failed-size : (getD l at 0 ≡ 0 → ⊥) → at + 2 + getD l (at + 1) 0 ≡ at + sizeOf (drop at l)
     failed-size n = omega (arith, size ∙ ap (λ (t : Bool). cond t 1 (2 + getD l (at + 1) 0)) (ne-eqb _ _ n))
+
+    pub passed-report : getD l at 0 ≡ 0 → reportIn (drop at l) ≡ passed
+    passed-report e = ap (λ (t : Bool). cond t passed (failed (take (getD (drop at l) 1 0) (drop 2 (drop at l))))) (ap (λ x. eqb x 0) first ∙ eq-eqb _ _ e)
+
+    pub failed-report : (getD l at 0 ≡ 0 → ⊥) → reportIn (drop at l) ≡ failed (take (getD l (at + 1) 0) (drop (at + 2) l))
+    failed-report n =
+        ap (λ (t : Bool). cond t passed (failed (take (getD (drop at l) 1 0) (drop 2 (drop at l))))) (ap (λ x. eqb x 0) first ∙ ne-eqb _ _ n)
+        ∙ ap₂ (λ n d. failed (take n d)) (getD-drop at l 1 0) (drop-drop 2 at l)
