@@ -5,3 +5,4 @@ pub mod Weighing
 pub mod Standing
 pub mod Recorded
 pub mod Reporting
+pub mod Replaying
