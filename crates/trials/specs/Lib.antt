@@ -14,4 +14,5 @@ pub mod Lacking
 pub mod Invariant
 pub mod Claim
 pub mod Oracle
+pub mod Whole
 pub mod Examples

@@ -4,13 +4,12 @@ use denote.Ref.{now}
 use native.Mathlib.Omega.{arith}
 use mathlib.Core.List.{List}
 use mathlib.Core.Path.{_≡_, refl, sym, ap, subst, _∙_}
-use mathlib.Core.Bool.{true}
 use lib.ListN.{length, drop}
 use Prim.Native.Nat.{ℕ, _+_, _-_}
 use Rattle.trials.specs.declared.Record.{Record}
 use Rattle.trials.specs.Operations.{left}
 use Rattle.trials.specs.Replay.{recordIn}
-use Rattle.trials.specs.Reports.{isReport, sizeOf}
+use Rattle.trials.specs.Reports.{sizeOf}
 use Rattle.trials.specs.ReportsLaws.{size-positive}
 use Rattle.trials.proofs.Listed.{at-end}
 use Rattle.trials.proofs.Replaying.{Replayed, not-begun, replayed-begin, replayed-end, replayed-made, replayed-last}
@@ -19,7 +18,7 @@ use Rattle.trials.proofs.series.replay.Tie as tie
 
 abbrev Inv-loop : tie.InvT-loop
 Inv-loop bytes flags start end reports paths₀ walk₀ rec₀ at₀ paths walk rec at =
-    ((P W : List ℕ) → Replayed bytes flags start end reports P W rec₀ at₀ paths₀ walk₀ → Replayed bytes flags start end reports P W rec at paths walk)
+    ((P W : List ℕ) → Replayed bytes flags start end reports P W (left rec₀ paths₀ walk₀) at₀ → Replayed bytes flags start end reports P W (left rec paths walk) at)
     × (length paths ≡ length paths₀)
     × (length walk ≡ length walk₀)
 
@@ -29,7 +28,7 @@ abbrev μ-loop : tie.MeasureT-loop
 -- the trials have begun
 started : (c : tie.After-known-told Inv-loop μ-loop)
     → let a = c .before .before .before .before .before .before .before .before .before .before .before .before .before .before .args in
-    Replayed (now (a .bytes)) (a .flags) (a .start) (a .end) (now (a .reports)) (now (a .paths)) (now (a .walk)) (c .before .begun .given .0 .0) 0 (c .before .before .before .before .before .before .before .begin .last .1 .1 .1 .1 .0) (c .before .before .before .before .before .before .before .begin .last .1 .1 .1 .1 .1 .0)
+    Replayed (now (a .bytes)) (a .flags) (a .start) (a .end) (now (a .reports)) (now (a .paths)) (now (a .walk)) (left (c .before .begun .given .0 .0) (c .before .before .before .before .before .before .before .begin .last .1 .1 .1 .1 .0) (c .before .before .before .before .before .before .before .begin .last .1 .1 .1 .1 .1 .0)) 0
 started c =
     let a = c .before .before .before .before .before .before .before .before .before .before .before .before .before .before .args in
     let begin = c .before .before .before .before .before .before .before .begin in
@@ -38,7 +37,7 @@ started c =
 -- some reports have been made
 at-loop : (c : tie.At-loop Inv-loop μ-loop)
     → let a = c .before .before .before .before .before .before .before .before .before .before .before .before .before .before .before .args in
-    Replayed (now (a .bytes)) (a .flags) (a .start) (a .end) (now (a .reports)) (now (a .paths)) (now (a .walk)) (c .loop .rec) (c .loop .at) (c .loop .paths) (c .loop .walk)
+    Replayed (now (a .bytes)) (a .flags) (a .start) (a .end) (now (a .reports)) (now (a .paths)) (now (a .walk)) (left (c .loop .rec) (c .loop .paths) (c .loop .walk)) (c .loop .at)
 at-loop c = c .loop .inv .0 _ _ (started (c .before))
 
 -- one more has been made
@@ -47,9 +46,8 @@ after-report : (c : tie.After-record-of Inv-loop μ-loop)
     let make = c .before .before .before .before .before .before .before .before .make in
     let start = c .before .before .before .before .before .before .before .before .before .before .before .before .before in
     (P W : List ℕ)
-    → Replayed (now (a .bytes)) (a .flags) (a .start) (a .end) (now (a .reports)) P W (start .before .begun .given .0 .0) 0 (start .before .before .before .before .before .before .before .begin .last .1 .1 .1 .1 .0) (start .before .before .before .before .before .before .before .begin .last .1 .1 .1 .1 .1 .0)
-    → Replayed (now (a .bytes)) (a .flags) (a .start) (a .end) (now (a .reports)) P W (recordIn (c .before .before .made .given .0 .0)) (c .before .before .made .given .0 .1 .0) (make .last .1 .1 .1 .1 .0) (make .last .1 .1 .1 .1 .1 .0)
-    × (isReport (drop (c .before .before .before .before .before .before .before .before .before .before .before .before .loop .at) (now (a .reports))) ≡ true)
+    → Replayed (now (a .bytes)) (a .flags) (a .start) (a .end) (now (a .reports)) P W (left (start .before .begun .given .0 .0) (start .before .before .before .before .before .before .before .begin .last .1 .1 .1 .1 .0) (start .before .before .before .before .before .before .before .begin .last .1 .1 .1 .1 .1 .0)) 0
+    → Replayed (now (a .bytes)) (a .flags) (a .start) (a .end) (now (a .reports)) P W (left (recordIn (c .before .before .made .given .0 .0)) (make .last .1 .1 .1 .1 .0) (make .last .1 .1 .1 .1 .1 .0)) (c .before .before .made .given .0 .1 .0)
     × (c .before .before .made .given .0 .1 .0 ≡ c .before .before .before .before .before .before .before .before .before .before .before .before .loop .at + sizeOf (drop (c .before .before .before .before .before .before .before .before .before .before .before .before .loop .at) (now (a .reports))))
 after-report c P W h =
     let a = c .before .before .before .before .before .before .before .before .before .before .before .before .before .before .before .before .before .before .before .before .before .before .before .before .before .before .before .args in
@@ -109,14 +107,14 @@ loop-less : tie.Need-loop-less Inv-loop μ-loop
 loop-less c =
     let a = c .before .before .before .before .before .before .before .before .before .before .before .before .before .before .before .before .before .before .before .before .before .before .before .before .before .before .before .args in
     let made = after-report c (now (a .paths)) (now (a .walk)) (started (c .before .before .before .before .before .before .before .before .before .before .before .before .before)) in
-    omega (arith, made .2, size-positive (drop (c .before .before .before .before .before .before .before .before .before .before .before .before .loop .at) (now (a .reports))), c .before .before .before .before .before .before .before .before .before .before .before .loop-test .taken)
+    omega (arith, made .1, size-positive (drop (c .before .before .before .before .before .before .before .before .before .before .before .before .loop .at) (now (a .reports))), c .before .before .before .before .before .before .before .before .before .before .before .loop-test .taken)
 
 loop-again : tie.Need-loop-again Inv-loop μ-loop
 loop-again c =
     let a = c .before .before .before .before .before .before .before .before .before .before .before .before .before .before .before .before .before .before .before .before .before .before .before .before .before .before .before .args in
     let inv = c .before .before .before .before .before .before .before .before .before .before .before .before .loop .inv in (
       λ P W h.
-          subst (λ (r : Record). Replayed (now (a .bytes)) (a .flags) (a .start) (a .end) (now (a .reports)) P W r (c .before .before .made .given .0 .1 .0) (c .before .before .before .before .before .before .before .before .make .last .1 .1 .1 .1 .0) (c .before .before .before .before .before .before .before .before .make .last .1 .1 .1 .1 .1 .0))
+          subst (λ (r : Record). Replayed (now (a .bytes)) (a .flags) (a .start) (a .end) (now (a .reports)) P W (left r (c .before .before .before .before .before .before .before .before .make .last .1 .1 .1 .1 .0) (c .before .before .before .before .before .before .before .before .make .last .1 .1 .1 .1 .1 .0)) (c .before .before .made .given .0 .1 .0))
           (sym (c .record-of .ensures)) (after-report c P W h .0),
       omega (arith, inv .1),
       omega (arith, inv .2),
