@@ -4,13 +4,13 @@ use mathlib.Core.Path.{_≡_, refl, sym, ap, ap₂, _∙_}
 use mathlib.Core.List.{List, [], _∷_, _++_, append-nil, append-assoc}
 use native.Mathlib.Nat.{add-zero}
 use native.Mathlib.Omega.{arith}
-use lib.ListN.{length, set, replicate, length-append, length-replicate, length-map, replicate-append-replicate}
+use lib.ListN.{length, set, replicate, length-append, length-map, replicate-append-replicate}
 use Rattle.book.specs.declared.Counts.{Counts}
 use Rattle.book.specs.declared.Kind.the-variants.{VertexCount, Arc, RuleSet, Path}
 use Rattle.walks.specs.Graph.{Arc as Book·Arc}
-use Rattle.book.specs.Book.{RuleSet as Book·RuleSet, Book, All, allPaths, counts}
+use Rattle.book.specs.Book.{RuleSet as Book·RuleSet, Book, allPaths, counts}
 use Rattle.book.specs.Reading.{countAt, arcAt, flagsAt, pathAt, extended, addPath}
-use Rattle.book.specs.Tables.{entered, flagsOf, ownersFrom, entry, entries, padded, flagTable}
+use Rattle.book.specs.Tables.{entered, flagsOf, ownersFrom, padded, flagTable}
 use Rattle.book.specs.BookLaws.{bare, paths-set, length-sets-path, paths-path}
 use Rattle.book.proofs.Padded.{padded-set}
 

@@ -6,7 +6,7 @@ use mathlib.Core.Path.{_≡_, refl, sym, ap, ap₂, _∙_}
 use native.Mathlib.Nat.{add-zero}
 use native.Mathlib.Numerals.{add-one}
 use native.Mathlib.Omega.{arith}
-use lib.ListN.{length, getD, take, drop, replicate, length-append, length-replicate, drop-of-length-le, take-append-drop}
+use lib.ListN.{length, getD, take, drop, replicate, length-append, drop-of-length-le, take-append-drop}
 use lib.Seq.{paste, drop-cons, getD-drop, drop-drop}
 use Rattle.book.specs.Book.{RuleSet, All, allPaths}
 use Rattle.book.specs.BookLaws.{all-snoc}

@@ -1,24 +1,22 @@
 -- Begin, by what binding and planning say.
 use Prim.Native.Nat.{ℕ, _≤_, _<_}
-use mathlib.Core.Bool.{Bool, true, false, _&&_}
-use mathlib.Core.List.{List, [], _∷_, _++_, append-nil}
+use mathlib.Core.Bool.{Bool, true, _&&_}
+use mathlib.Core.List.{List, [], _∷_, _++_}
 use mathlib.Core.Logic.{inl, inr}
 use mathlib.Core.Option.{Option, none, some}
 use mathlib.Core.Path.{_≡_, refl, sym, ap, ap₂, subst, _∙_}
 use native.Mathlib.Omega.{arith}
 use borrow.Author.Tests.{le-leb, lt-leb}
 use lib.Dec.{leb, ltb}
-use lib.ListN.{length, take, drop, drop-of-length-le}
+use lib.ListN.{length, take, drop}
 use lib.Seq.{paste, take-at}
 use Rattle.automaton.specs.Chosen.{chosen}
 use Rattle.book.specs.declared.Refusal.{Refusal}
 use Rattle.book.specs.declared.Refusal.the-variants.{Area}
 use Rattle.book.specs.Refusal.{refusalOf}
-use Rattle.book.specs.Book.{Book, WellFormed, graph}
-use Rattle.book.specs.BookLaws.{reading-is-book, all-map}
-use Rattle.book.specs.EntryLaws.{length-padded, length-entries}
+use Rattle.book.specs.Book.{Book, graph}
+use Rattle.book.specs.BookLaws.{reading-is-book}
 use Rattle.book.specs.Reading.{Reading, accepted, refused, reading}
-use Rattle.book.specs.Tables.{entries}
 use Rattle.rules.specs.declared.Bound.{Bound}
 use Rattle.rules.specs.Area.{areaSize, written, spelled, valid}
 use Rattle.rules.specs.Binding.{known}
@@ -30,9 +28,9 @@ use denote.Enum.Declared.{tagOf}
 use Rattle.planner.specs.declared.Outcome.{Outcome}
 use Rattle.planner.proofs.Outcome.{the-type}
 use Rattle.planner.specs.declared.Outcome.the-variants.{Walk, Nothing, Refused}
-use Rattle.planner.specs.Planning.{longest, tests, Planned, PlanningIn, PlanningOf, Planning}
+use Rattle.planner.specs.Planning.{longest, tests, Planned, PlanningOf, Planning}
 use Rattle.trials.specs.declared.Begun.{Begun}
-use Rattle.trials.specs.Trials.{beginRefusal, State}
+use Rattle.trials.specs.Trials.{beginRefusal}
 use Rattle.trials.specs.declared.Record.{Record}
 use Rattle.trials.specs.Accepted.{begin-accepted}
 use Rattle.trials.specs.Steps.{fresh, replanned, Counted}

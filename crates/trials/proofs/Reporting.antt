@@ -1,12 +1,12 @@
 -- A report, by what its tests and planning say.
-use Prim.Native.Nat.{ℕ, suc, _+_, _-_, _*_, _≤_, _<_}
+use Prim.Native.Nat.{ℕ, suc, _+_, _*_, _≤_, _<_}
 use mathlib.Core.Bool.{Bool, true, false, _&&_}
 use mathlib.Core.List.{List, [], _∷_, _++_, append-assoc}
-use mathlib.Core.Option.{Option, none, some, Option·none-ne-some}
+use mathlib.Core.Option.{Option, none, some}
 use mathlib.Core.Path.{_≡_, refl, sym, ap, ap₂, subst, _∙_}
 use native.Mathlib.Omega.{arith}
 use borrow.Author.Tests.{le-leb, lt-ltb}
-use lib.Dec.{T, eqb, leb, ltb, ltb→lt}
+use lib.Dec.{eqb, leb, ltb, ltb→lt}
 use lib.ListN.{length, set, take, drop, length-append, length-map, length-set}
 use lib.Seq.{paste, set-append-left, take-append-le, drop-append-le}
 use Rattle.lists.specs.Test.{T-and}
@@ -20,7 +20,7 @@ use Rattle.book.specs.Book.{Book, WellFormed, IsPath, graph}
 use Rattle.book.specs.BookLaws.{all-map}
 use Rattle.book.specs.EntryLaws.{length-entries, entries-snoc}
 use Rattle.book.specs.Reading.{accepted}
-use Rattle.book.specs.Tables.{entries, entry, padded}
+use Rattle.book.specs.Tables.{entries, padded}
 use Rattle.book.proofs.Padded.{padded-entry}
 use Rattle.rules.specs.Area.{areaSize, written, blocks, spelled, valid}
 use Rattle.rules.specs.AreaLaws.{length-blocks}
@@ -29,9 +29,8 @@ use Rattle.planner.specs.declared.Outcome.{Outcome}
 use Rattle.planner.specs.Planning.{longest, tests, Planned, PlanningIn}
 use Rattle.trials.specs.declared.Record.{Record}
 use Rattle.trials.specs.declared.Reported.{Reported}
-use Rattle.trials.specs.declared.judge.Judged.{Judged}
 use Rattle.trials.specs.declared.judge.Judged.the-variants.{Standing, Refused}
-use Rattle.trials.specs.Trials.{Report, passed, failed, State, ForbiddenSet, pathArea, areasFit, takes, standing, isNamed, hasRoom, isRecord, passedIn, stageOf, litresOf, lengthOf, step}
+use Rattle.trials.specs.Trials.{Report, passed, failed, State, ForbiddenSet, areasFit, takes, standing, isNamed, hasRoom, isRecord, passedIn, stageOf, litresOf, lengthOf, step}
 use Rattle.trials.specs.Steps.{passedOf, failedOf, replanned, Counted}
 use Rattle.trials.specs.Operations.{left, stateOf, barred, reportRefusal, reportedAs, reportingOf}
 use Rattle.trials.specs.OperationLaws.{asked, refused-before, all-asked, set-paths, set-once, Passed, passed-tests}

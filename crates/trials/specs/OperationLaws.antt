@@ -1,15 +1,15 @@
 -- Laws of a report: what an accepted one has passed, and that a report in trials is a step of theirs.
-use Prim.Native.Nat.{ℕ, _+_, _≤_, _<_}
+use Prim.Native.Nat.{ℕ, _≤_}
 use mathlib.Core.Bool.{Bool, true, false, _&&_}
 use mathlib.Core.List.{List, [], _∷_, _++_, List·Memᴰ, List·Memᴰ·head, List·Memᴰ·tail}
 use mathlib.Core.Option.{Option, none, some, Option·none-ne-some}
-use mathlib.Core.Path.{_≡_, refl, sym, ap, ap₂, subst, _∙_}
+use mathlib.Core.Path.{_≡_, refl, sym, ap, ap₂, _∙_}
 use native.Mathlib.Omega.{arith}
 use borrow.Author.Tests.{leb-true, eq-eqb, eqb-true}
-use lib.Dec.{T, eqb, leb, leb→le}
-use lib.ListN.{length, take, drop, take-append-drop, length-map}
+use lib.Dec.{T, eqb, leb}
+use lib.ListN.{length, drop, take-append-drop, length-map}
 use lib.Seq.{drop-at}
-use Rattle.lists.specs.Test.{conj, and-true}
+use Rattle.lists.specs.Test.{and-true}
 use Rattle.walks.specs.Graph.{Graph}
 use Rattle.book.specs.declared.Refusal.{Refusal}
 use Rattle.book.specs.Refusal.{refusalOf}
@@ -18,13 +18,12 @@ use Rattle.book.specs.Reading.{accepted}
 use Rattle.rules.specs.Binding.{once}
 use Rattle.rules.specs.Area.{areaSize, written, blocks, spelled, valid}
 use Rattle.rules.specs.AreaLaws.{length-blocks}
-use Rattle.rules.specs.ValidLaws.{Valid as Area·Valid, valid→Valid, written-length, written-valid, written-spells}
+use Rattle.rules.specs.ValidLaws.{valid→Valid, written-length, written-valid, written-spells}
 use Rattle.automaton.specs.Chosen.{chosen}
 use Rattle.planner.specs.Planning.{longest}
 use Rattle.trials.specs.declared.Record.{Record}
-use Rattle.trials.specs.declared.Reported.{Reported}
 use Rattle.trials.specs.Trials.{Report, State, pathArea, areasFit, isNamed, hasRoom, ForbiddenSet, isForbiddenSet, isRecord, isValid, Valid, refusal, step}
-use Rattle.trials.specs.Operations.{Left, left, stateOf, barred, reportRefusal, reportedAs, reportingOf}
+use Rattle.trials.specs.Operations.{stateOf, reportRefusal, reportedAs, reportingOf}
 use Rattle.trials.specs.Tests.{T→true, true→T, takes→IsPath, forbidden-set, once→Distinct, Distinct→once, →isForbiddenSet, Valid→isValid, isValid→Valid}
 use Rattle.trials.specs.Accepted.{Accepts, accepts}
 

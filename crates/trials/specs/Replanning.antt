@@ -1,10 +1,10 @@
 -- What planning answers, as the record and the line-up area hold it.
 use Prim.Native.Nat.{ℕ, _≤_, _<_}
-use mathlib.Core.Path.{_≡_, refl, sym, ap, ap₂, subst, _∙_}
-use mathlib.Core.List.{List, [], _∷_, _++_, List·Memᴰ}
+use mathlib.Core.Path.{_≡_, refl, sym, ap₂, subst}
+use mathlib.Core.List.{List}
 use mathlib.Core.Option.{Option, none, some}
 use native.Mathlib.Omega.{arith}
-use lib.ListN.{length, drop}
+use lib.ListN.{length}
 use Rattle.walks.specs.Graph.{Graph}
 use Rattle.walks.specs.Walk.{hops-length}
 use Rattle.automaton.specs.Chosen.{Decided, chosen, chosen-is}

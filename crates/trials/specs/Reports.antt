@@ -1,7 +1,7 @@
 -- A list of reports as bytes: 0 is passed; 1, a number n and n vertices is failed, and names them. A report that is cut short ends the
 -- list, and so does any other first byte.
 use Prim.Native.Nat.{ℕ, zero, suc, _+_}
-use mathlib.Core.Bool.{Bool, true, false, cond, _&&_, _||_}
+use mathlib.Core.Bool.{Bool, cond, _&&_, _||_}
 use mathlib.Core.List.{List, [], _∷_}
 use lib.Dec.{eqb, leb, ltb}
 use lib.ListN.{length, getD, take, drop}

@@ -12,7 +12,7 @@ use Rattle.lists.specs.Test.{all}
 use Rattle.walks.specs.Graph.{Graph}
 use Rattle.walks.specs.Walk.{weightOf}
 use Rattle.walks.specs.Avoid.{occurs}
-use Rattle.walks.specs.Best.{Feasible, Best, None}
+use Rattle.walks.specs.Best.{Feasible}
 use Rattle.walks.specs.Feasible.{isFeasible}
 use Rattle.book.specs.declared.Refusal.{Refusal}
 use Rattle.book.specs.declared.Kind.the-variants.{Path}

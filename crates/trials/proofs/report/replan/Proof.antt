@@ -1,8 +1,7 @@
 -- `trials::replan` meets its contract: the path is entered, and the plan is that of the set with it.
 use borrow.Author.Needs.{needs}
 use denote.Ref.{now}
-use native.Mathlib.Omega.{arith}
-use mathlib.Core.Path.{_≡_, sym, ap, subst, _∙_}
+use mathlib.Core.Path.{_≡_, ap, subst, _∙_}
 use mathlib.Core.List.{_∷_, [], _++_}
 use mathlib.Core.Option.{none}
 use lib.ListN.{drop}
@@ -13,7 +12,7 @@ use Rattle.planner.specs.Planning.{PlanningIn}
 use Rattle.trials.specs.declared.Record.{Record}
 use Rattle.trials.specs.declared.Reported.{Reported}
 use Rattle.trials.specs.Trials.{failed}
-use Rattle.trials.specs.Steps.{failedOf, replanned}
+use Rattle.trials.specs.Steps.{replanned}
 use Rattle.trials.specs.Operations.{left, reportRefusal}
 use Rattle.trials.specs.Judging.{IsOf}
 use Rattle.trials.proofs.Reporting.{few-known, failed-few, path-short, entry-fits, entered, counted, has-failed}
