@@ -2,19 +2,21 @@
 use Prim.Native.Nat.{ℕ, _≤_}
 use mathlib.Core.Path.{_≡_, refl, sym, ap, ap₂, subst, _∙_}
 use mathlib.Core.Bool.{Bool, true, _&&_}
-use mathlib.Core.List.{List, [], _∷_, _++_, List·Memᴰ·not-nil}
+use mathlib.Core.List.{List, [], _∷_, _++_, List·Memᴰ, List·Memᴰ·head, List·Memᴰ·tail, List·Memᴰ·not-nil}
 use mathlib.Core.Option.{Option, none}
 use borrow.Author.Tests.{le-leb}
 use lib.Dec.{ltb}
 use lib.ListN.{length, drop}
-use Rattle.walks.specs.Best.{None}
+use Rattle.walks.specs.Best.{None, None·mono}
 use Rattle.book.specs.declared.Refusal.{Refusal}
-use Rattle.book.specs.Book.{Book, blank, graph}
+use Rattle.book.specs.Book.{Book, All, IsPath, WellFormed, blank, graph}
+use Rattle.book.specs.BookLaws.{reading-is-book}
 use Rattle.book.specs.Examples.{bytesA, bookA, book-A, bytesWays, bookWays, book-ways, bytesShortcut, bookShortcut, book-shortcut}
 use Rattle.book.specs.Reading.{accepted, reading, kept}
 use Rattle.book.specs.Refusal.{refusalOf}
 use Rattle.automaton.specs.Sums.{Plan, marks-0, marks-1, marks-2, marks-3, back, stay, lower-vertex, fewer-hops}
 use Rattle.rules.specs.Binding.{covers, bound, known}
+use Rattle.rules.specs.BindingLaws.{known-paths}
 use Rattle.rules.specs.Operations.{Binding, binding, areaAfter}
 use Rattle.rules.specs.Laws.{bind-accepted}
 use Rattle.planner.specs.declared.Outcome.{Outcome}
@@ -23,7 +25,7 @@ use Rattle.planner.specs.Planning.{longest, Planned, Planning}
 use Rattle.planner.specs.RuleSets.{refusal, decided, planned-known, planned-same}
 
 -- For every area that was bound for a batch and every area of 1,600 bytes or more for the walk, planning answers r, with w in the area's front.
-abbrev Gives : List ℕ → ℕ → ℕ → ℕ → Outcome → List ℕ → Type 0
+abbrev pub Gives : List ℕ → ℕ → ℕ → ℕ → Outcome → List ℕ → Type 0
 Gives s flags start end r w =
     (area : List ℕ) (F : List (List ℕ)) → binding s flags area ≡ Binding.bound F → (old : List ℕ) → longest ≤ length old → (r′ : Outcome) (new : List ℕ)
     → Planning s (areaAfter (binding s flags area) area) (length F) start end old r′ new → (r′ ≡ r) × (new ≡ w ++ drop (length w) old)
@@ -53,15 +55,23 @@ module _ (s : List ℕ) (b : Book) (read : reading s ≡ accepted b) (flags star
   none-given : None (graph b) (known flags (b .sets)) start end → Gives s flags start end Nothing []
   none-given n = given Nothing [] (λ old. (n, refl))
 
+-- Book A is well formed, so that its known paths have two vertices or more.
+well-A : WellFormed bookA
+well-A = reading-is-book bytesA bookA book-A .well-formed
+
+each : {F : List (List ℕ)} {r : List ℕ} → All (IsPath 4) F → List·Memᴰ r F → IsPath 4 r
+each h (List·Memᴰ·head e) = rw e (h .0)
+each h (List·Memᴰ·tail m) = each (h .1) m
+
 pub record Sums : Type 0 where
   pub marks-0 : Gives bytesA 0 0 3 (Walk 300 3) (0 ∷ 1 ∷ 2 ∷ 3 ∷ [])
   pub marks-1 : Gives bytesA 1 0 3 (Walk 350 2) (0 ∷ 2 ∷ 3 ∷ [])
   pub marks-2 : Gives bytesA 2 0 3 (Walk 300 3) (0 ∷ 1 ∷ 2 ∷ 3 ∷ [])
   pub marks-3 : Gives bytesA 3 0 3 (Walk 450 5) (0 ∷ 1 ∷ 2 ∷ 1 ∷ 2 ∷ 3 ∷ [])
-  pub back : Gives bytesA 0 3 0 Nothing []
-  pub stay : Gives bytesA 0 3 3 (Walk 0 0) (3 ∷ [])
-  pub lower-vertex : Gives bytesWays 0 0 3 (Walk 200 2) (0 ∷ 1 ∷ 3 ∷ [])
-  pub fewer-hops : Gives bytesShortcut 0 0 3 (Walk 200 1) (0 ∷ 3 ∷ [])
+  pub back : (flags : ℕ) → Gives bytesA flags 3 0 Nothing []
+  pub stay : (flags : ℕ) → Gives bytesA flags 3 3 (Walk 0 0) (3 ∷ [])
+  pub lower-vertex : (flags : ℕ) → Gives bytesWays flags 0 3 (Walk 200 2) (0 ∷ 1 ∷ 3 ∷ [])
+  pub fewer-hops : (flags : ℕ) → Gives bytesShortcut flags 0 3 (Walk 200 1) (0 ∷ 3 ∷ [])
 
 pub sums : Sums
 unfolding covers bound
@@ -71,8 +81,8 @@ sums =
       marks-1 = walk-given bytesA bookA book-A 1 0 3 refl _ 350 2 marks-1;
       marks-2 = walk-given bytesA bookA book-A 2 0 3 refl _ 300 3 marks-2;
       marks-3 = walk-given bytesA bookA book-A 3 0 3 refl _ 450 5 marks-3;
-      back = none-given bytesA bookA book-A 0 3 0 refl back;
-      stay = walk-given bytesA bookA book-A 0 3 3 refl _ 0 0 (stay [] (λ r m. absurd (List·Memᴰ·not-nil m)));
-      lower-vertex = walk-given bytesWays bookWays book-ways 0 0 3 refl _ 200 2 lower-vertex;
-      fewer-hops = walk-given bytesShortcut bookShortcut book-shortcut 0 0 3 refl _ 200 1 fewer-hops;
+      back = λ flags. none-given bytesA bookA book-A flags 3 0 refl (None·mono (λ r m. absurd (List·Memᴰ·not-nil m)) back);
+      stay = λ flags. walk-given bytesA bookA book-A flags 3 3 refl _ 0 0 (stay (known flags (bookA .sets)) (λ r m. each (known-paths flags bookA well-A) m .two));
+      lower-vertex = λ flags. walk-given bytesWays bookWays book-ways flags 0 3 refl _ 200 2 lower-vertex;
+      fewer-hops = λ flags. walk-given bytesShortcut bookShortcut book-shortcut flags 0 3 refl _ 200 1 fewer-hops;
     }
