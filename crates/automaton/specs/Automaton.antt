@@ -6,11 +6,11 @@ use mathlib.Core.Path.{_≡_, refl, sym, ap, _∙_}
 use Prim.Native.Nat.{ℕ, suc, _<_, _≤_}
 use native.Mathlib.Omega.{arith}
 use lib.Dec.{T, T-not, not-T}
-use lib.ListN.{length, take, drop, take-append-drop, length-append, length-reverse, length-take}
-use lib.Seq.{take-length, take-at, getD-take}
+use lib.ListN.{length, length-append, length-reverse, length-take}
+use lib.Seq.{take-length, getD-take}
 use mir.Facts.{or-yes}
 use Rattle.lists.specs.Test.{conj, any, any→some, some→any, or-left, or-right, T-ext}
-use Rattle.walks.specs.Avoid.{Occurs, occurs, isPrefix, isPrefix→append, append→isPrefix, isPrefix-refl, same, same→≡, same-refl, occurs→Occurs, Occurs→occurs, Occurs·reverse, Avoids, Long}
+use Rattle.walks.specs.Avoid.{Occurs, occurs, isPrefix, isPrefix→append, isPrefix-refl, same, same→≡, same-refl, occurs→Occurs, Occurs→occurs, Occurs·reverse, Avoids, Long}
 use Rattle.automaton.specs.Longest.{longest, longest-is, longest-cons, isPrefix→longest, longest→isPrefix}
 use Rattle.automaton.specs.States.{State, prefix, isState, latest, State·closed, isState→State, State→isState}
 
@@ -31,10 +31,7 @@ fail F (v ∷ q) = longest (isState F) (length q) (v ∷ q)
 abbrev pub endsWith : List ℕ → List ℕ → Bool
 endsWith w r = isPrefix (reverse r) w
 
--- v is blocked at q: some suffix of q.v is a forbidden path. Then the test.
-abbrev pub Blocked : List (List ℕ) → List ℕ → ℕ → Type 0
-Blocked F q v = (k : ℕ) × List·Memᴰ (reverse (take k (v ∷ q))) F
-
+-- v is blocked at q: some suffix of q.v is a forbidden path.
 unfoldable pub blocked : List (List ℕ) → List ℕ → ℕ → Bool
 blocked F q v = any (endsWith (v ∷ q)) F
 
@@ -49,21 +46,6 @@ reverse→occurs : (r w : List ℕ) → Occurs r (reverse w) → T (occurs (reve
 reverse→occurs r w o = Occurs→occurs (reverse r) w (rw reverse-reverse at (Occurs·reverse o))
 
 module _ (F : List (List ℕ)) where
-  pub blocked→Blocked : (q : List ℕ) (v : ℕ) → T (blocked F q v) → Blocked F q v
-  unfolding blocked
-  blocked→Blocked q v t =
-      let a = any→some (endsWith (v ∷ q)) F t in
-      let e = isPrefix→append (reverse (a .0)) (v ∷ q) (a .2) in
-      let r = a .0 in
-      let front : take (length r) (v ∷ q) ≡ reverse r = ap (take (length r)) (e .1) ∙ take-at (reverse r) (e .0) (length r) (length-reverse r) in
-      (length r, Memᴰ·cast (ap reverse front ∙ reverse-reverse r) (a .1))
-
-  pub Blocked→blocked : (q : List ℕ) (v : ℕ) → Blocked F q v → T (blocked F q v)
-  unfolding blocked
-  Blocked→blocked q v b =
-      let p = take (b .0) (v ∷ q) in
-      some→any (endsWith (v ∷ q)) (b .1) (rw (reverse-reverse p) (rw (take-append-drop (b .0) (v ∷ q)) at (append→isPrefix p (drop (b .0) (v ∷ q)))))
-
   pub forbidden→member : (q : List ℕ) → T (forbidden F q) → List·Memᴰ (reverse q) F
   unfolding forbidden
   forbidden→member q t =
@@ -111,10 +93,6 @@ module _ (F : List (List ℕ)) where
   latest-go q v =
       let l = longest-is (isState F) (suc (length q)) (v ∷ q) in
       rw (l .is-take, getD-take (l .size) (v ∷ q) 0 0 (l .most 1 (omega arith) (omega arith) tt))
-
-  -- The failure link of two vertices or more is a state.
-  pub fail-state : (v u : ℕ) (q : List ℕ) → State F (fail F (v ∷ u ∷ q))
-  fail-state v u q = rw fail-cons (go-state (fail F (u ∷ q)) v)
 
   -- A step goes to q.v where that is a state, and otherwise where the failure link's step goes.
   pub go-cases : (q : List ℕ) (v : ℕ) → go F q v ≡ cond (isState F (v ∷ q)) (v ∷ q) (go F (fail F q) v)

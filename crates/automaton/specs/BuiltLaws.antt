@@ -1,15 +1,15 @@
 -- What the tables of the automaton tell.
 use mathlib.Core.Bool.{Bool, true, false, not}
 use mathlib.Core.List.{List, []}
-use mathlib.Core.Path.{_≡_, sym, ap, _∙_}
+use mathlib.Core.Path.{_≡_, sym, _∙_}
 use Prim.Native.Nat.{ℕ, _+_, _*_, _<_}
 use native.Mathlib.Omega.{arith}
 use lib.Dec.{T}
 use lib.ListN.{getD}
 use Rattle.automaton.specs.States.{State, latest}
-use Rattle.automaton.specs.Automaton.{blocked, latest-go}
-use Rattle.automaton.specs.Built.{Numbers, bit, flag, Built}
-use Rattle.automaton.specs.Words.{index-member, member-number}
+use Rattle.automaton.specs.Automaton.{blocked}
+use Rattle.automaton.specs.Built.{bit, flag, Built}
+use Rattle.automaton.specs.Words.{index-member}
 
 flag-zero : (b : Bool) → 0 ≡ flag b → T (not b)
 flag-zero true e = omega (arith, e)
@@ -20,10 +20,6 @@ flag-one true e = tt
 flag-one false e = omega (arith, e)
 
 module _ {F : List (List ℕ)} {n m : ℕ} {steps marks latests : List ℕ} (b : Built F n m steps marks latests) where
-  -- Each state at a vertex below n has a number.
-  pub number-of-state : (w : List ℕ) → State F w → latest w < n → (k : ℕ) × (k < m) × Numbers (b .words) k w
-  number-of-state w s h = let k = member-number (b .words) (b .states .all w s h) in (k .0, omega (arith, k .1 .below, b .count), k .1)
-
   module _ (q : ℕ) (here : q < m) where
     -- A number below m is that of a state, which stands at a vertex below n.
     pub numbered : State F (getD (b .words) q []) × (latest (getD (b .words) q []) < n)
@@ -42,7 +38,3 @@ module _ {F : List (List ℕ)} {n m : ℕ} {steps marks latests : List ℕ} (b :
     module _ (v : ℕ) (below : v < n) where
       pub step-below : getD steps (q * 64 + v) 0 < m
       step-below = omega (arith, b .step q v here below .below, b .count)
-
-      -- A step over v leads to a state that stands at v.
-      pub step-stands : getD latests (getD steps (q * 64 + v) 0) 0 ≡ v
-      step-stands = b .stands (getD steps (q * 64 + v) 0) step-below ∙ ap latest (b .step q v here below .is) ∙ latest-go F (getD (b .words) q []) v

@@ -44,9 +44,6 @@ module _ (words : List (List ℕ)) where
   pub number-member : {w : List ℕ} {k : ℕ} → Numbers words k w → List·Memᴰ w words
   number-member {w} {k} a = Memᴰ·cast (sym (a .is)) (index-member [] words k (a .below))
 
-  pub member-number : {w : List ℕ} → List·Memᴰ w words → (k : ℕ) × Numbers words k w
-  member-number m = let s = member-index [] m in (s .0, record { below = s .1; is = s .2 })
-
   module _ (a : List ℕ) where
     pub old-word : (k : ℕ) → k < length words → getD (words ++ (a ∷ [])) k [] ≡ getD words k []
     old-word k h = List·getD-append words (a ∷ []) [] k h

@@ -5,7 +5,7 @@ use mathlib.Core.List.{List, [], _∷_, List·Memᴰ·head, List·Memᴰ·tail, 
 use mathlib.Core.Logic.{⊎-elim}
 use native.Mathlib.Omega.{arith}
 use lib.ListN.{length, getD, drop}
-use Rattle.distances.specs.Edge.{Edge, _∈_, edges, Within}
+use Rattle.distances.specs.Edge.{Edge, _∈_, edges}
 
 abbrev pub edge-at : List ℕ → List ℕ → List ℕ → ℕ → Edge
 edge-at tails heads costs i = record { tail = getD tails i 0; head = getD heads i 0; cost = getD costs i 0 }
@@ -40,8 +40,3 @@ length-edges-le [] heads costs = omega arith
 length-edges-le (t ∷ tails) [] costs = omega arith
 length-edges-le (t ∷ tails) (h ∷ heads) [] = omega arith
 length-edges-le (t ∷ tails) (h ∷ heads) (c ∷ costs) = omega (arith, length-edges-le tails heads costs)
-
--- columns of states below n give edges within n
-pub within-columns : (n : ℕ) (tails heads costs : List ℕ) →
-    ((i : ℕ) → i < length tails → getD tails i 0 < n) → ((i : ℕ) → i < length heads → getD heads i 0 < n) → Within n (edges tails heads costs)
-within-columns n tails heads costs ts hs e m = let (i, a, b, g) = edge-index tails heads costs e m in rw g (ts i a, hs i b)

@@ -12,7 +12,7 @@ use Rattle.distances.specs.Edge.{Edge, _∈_, Path, cost}
 use Rattle.distances.specs.Table.{at, Attained, Least, relaxes, pass, passes, settled}
 use lib.Ieee.Fits.{and-i}
 use Rattle.lists.specs.Test.{T-and}
-use Rattle.distances.specs.Pass.{pass-edge, passes-least}
+use Rattle.distances.specs.Pass.{passes-least}
 
 pub least-unique : {es : List Edge} {base : List ℕ} {q d d′ : ℕ} → Least es base q d → Least es base q d′ → d ≡ d′
 least-unique l l′ =
@@ -43,10 +43,6 @@ relaxes-settled (e ∷ es) t h =
 pub pass-settled : (es : List Edge) (t : List ℕ) → T (settled es t) → pass es t ≡ t
 unfolding pass
 pass-settled = relaxes-settled
-
--- and only over a settled one
-pub settled-pass : (es : List Edge) (t : List ℕ) → pass es t ≡ t → T (settled es t)
-settled-pass es t h = edge-settled es t (λ e m. omega (arith, ap (λ u. at u (e .tail)) h, pass-edge t m))
 
 -- once settled, further passes change nothing
 pub passes-stay : (es : List Edge) (t : List ℕ) (k : ℕ) → T (settled es (passes es k t)) → (m : ℕ) → k ≤ m → passes es m t ≡ passes es k t

@@ -44,11 +44,6 @@ visits-below n es w [] q r h path x m = rw (List·Memᴰ·eq-of-singleton m) h
 visits-below n es w (e ∷ p) q r h path x m =
     ⊎-elim (λ i. rw i h) (visits-below n es w p (e .head) r (w e (path .0) .1) (path .2) x) (List·Memᴰ·cases-cons m)
 
--- a path stays within
-pub path-below : (n : ℕ) (es : List Edge) → Within n es → (p : List Edge) (q r : ℕ) → q < n → Path es q r p → r < n
-path-below n es w [] q r h path = rw (← path) h
-path-below n es w (e ∷ p) q r h path = path-below n es w p (e .head) r (w e (path .0) .1) (path .2)
-
 -- a path no dearer, between the same ends, with fewer edges than states
 pub shorten : (n : ℕ) (es : List Edge) → Within n es → (p : List Edge) (q r : ℕ) → q < n → Path es q r p →
     (p′ : List Edge) × Path es q r p′ × (length p′ < n) × NoDearer p′ p

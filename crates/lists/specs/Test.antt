@@ -28,10 +28,6 @@ pub and-true : (x y : Bool) → x && y ≡ true → (x ≡ true) × (y ≡ true)
 and-true true y e = (refl, e)
 and-true false y e = absurd (false≢true e)
 
-pub or-true : (x y : Bool) → x || y ≡ true → (x ≡ true) ⊎ (y ≡ true)
-or-true true y e = inl refl
-or-true false y e = inr e
-
 pub or-false : (x y : Bool) → x || y ≡ false → (x ≡ false) × (y ≡ false)
 or-false true y e = absurd (true≢false e)
 or-false false y e = (refl, e)

@@ -1,4 +1,4 @@
--- A graph has at most one planner: best walks are unique.
+-- What a planner answers: the best walk where there is one, and none where there is none.
 use Prim.Native.Nat.{ℕ, _<_}
 use mathlib.Core.Path.{_≡_, refl, ap}
 use mathlib.Core.List.{List}
@@ -8,7 +8,6 @@ use Rattle.walks.specs.Best.{Best, None, Best·unique, Best·not-None}
 use Rattle.automaton.specs.Chosen.{Decided}
 use Rattle.trials.specs.Trials.{ForbiddenSet, Plan, Planner}
 
--- A planner's answer is the best walk where there is one, and none where there is none.
 module _
     {g : Graph} {plan : Plan} (planner : Planner g plan) {F : List (List ℕ)} {s t : ℕ}
     (set : ForbiddenSet (g .count) F) (start : s < g .count) (end : t < g .count)
@@ -26,10 +25,3 @@ module _
         go : (p : Option (List ℕ)) → Decided g F s t p → p ≡ none
         go none _ = refl
         go (some v) (c, short) = absurd (Best·not-None c n)
-
-    pub planners-agree : {plan′ : Plan} → Planner g plan′ → plan F s t ≡ plan′ F s t
-    planners-agree {plan′} other = go (plan′ F s t) (other .plans F s t set start end)
-      where
-        go : (p : Option (List ℕ)) → Decided g F s t p → plan F s t ≡ p
-        go none n = plan-none n
-        go (some v) (c, short) = plan-best c

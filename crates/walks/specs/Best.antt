@@ -1,12 +1,12 @@
 -- Feasible walks, the best of them, and when there is none.
 use mathlib.Core.List.{List, [], _∷_}
-use mathlib.Core.Path.{_≡_, refl, sym, subst}
+use mathlib.Core.Path.{_≡_, refl, sym}
 use mathlib.Core.Logic.{inl, inr}
 use Prim.Native.Nat.{ℕ, _<_, _≤_}
 use native.Mathlib.Omega.{arith}
 use native.Mathlib.Decide.{decLt}
 use lib.ListN.{getD}
-use Rattle.walks.specs.Graph.{Graph, Graph·ext}
+use Rattle.walks.specs.Graph.{Graph}
 use Rattle.walks.specs.Walk.{Walk, Walk·single, weightOf, hops}
 use Rattle.walks.specs.Avoid.{Avoids, _⊆_, Avoids·mono, Long, Avoids·single}
 use Rattle.walks.specs.Order.{_≼⟨_⟩_, ≼-antisym, ≼-weight}
@@ -72,11 +72,3 @@ Best·stay {g} {F} {s} long b = record { feasible = record { walk = Walk·single
     least [] f = absurd (omega (arith, f .walk .nonempty))
     least (a ∷ []) f = inr (refl, inr (refl, inr (sym (f .starts), tt)))
     least (a ∷ c ∷ v) f = lighter (a ∷ c ∷ v) (omega arith) (decLt 0 (weightOf g (a ∷ c ∷ v)))
-
--- Best and None are the same for two graphs of one count and the same weights.
-module _ {g h : Graph} (counts : g .count ≡ h .count) (weights : (u v : ℕ) → g .weight u v ≡ h .weight u v) {F : List (List ℕ)} {s t : ℕ} where
-  pub Best·same-graph : {w : List ℕ} → Best g F s t w → Best h F s t w
-  Best·same-graph {w} b = subst (λ (k : Graph). Best k F s t w) (Graph·ext counts weights) b
-
-  pub None·same-graph : None g F s t → None h F s t
-  None·same-graph n = subst (λ (k : Graph). None k F s t) (Graph·ext counts weights) n

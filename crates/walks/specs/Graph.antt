@@ -2,7 +2,6 @@
 use mathlib.Core.Bool.{Bool, true, false, _&&_, cond}
 use mathlib.Core.List.{List, [], _∷_}
 use mathlib.Core.Option.{Option, none, some, Option·getD}
-use mathlib.Core.Path.{_≡_}
 use Prim.Native.Nat.{ℕ}
 use lib.Dec.{eqb}
 
@@ -10,10 +9,6 @@ use lib.Dec.{eqb}
 pub record Graph : Type 0 where
   pub count : ℕ
   pub weight : ℕ → ℕ → Option ℕ
-
--- Two graphs of one count and the same weights are one graph.
-pub Graph·ext : {g h : Graph} → g .count ≡ h .count → ((u v : ℕ) → g .weight u v ≡ h .weight u v) → g ≡ h
-Graph·ext n e i = record { count = n i; weight = λ u v. e u v i }
 
 abbrev pub isSome : {A : Type 0} → Option A → Bool
 isSome none = false
