@@ -1,26 +1,26 @@
 -- The claim about the list (01, 'Trials'): after every list of reports the record and every byte of both areas are those that the three
 -- rules give, and failed and passed count the accepted reports of their kind.
-use Prim.Native.Nat.{ℕ, _+_, _*_, _≤_}
+use Prim.Native.Nat.{ℕ, _+_}
 use mathlib.Core.Path.{_≡_, refl, sym, ap, _∙_}
 use mathlib.Core.Bool.{Bool, true, false, cond, _&&_}
-use mathlib.Core.List.{List, [], _∷_, _++_, List·Memᴰ, List·Memᴰ·head, List·Memᴰ·tail}
+use mathlib.Core.List.{List, [], _∷_, _++_, List·Memᴰ}
 use mathlib.Core.Logic.{_≢_, _↔_, by-cases}
 use mathlib.Core.Option.{Option, none, some}
 use native.Mathlib.Omega.{arith}
 use native.Mathlib.Decide.{ℕ-discrete}
 use borrow.Author.Tests.{eqb-true}
 use lib.Dec.{T, eqb}
-use lib.ListN.{length, drop, length-append, length-drop, length-replicate}
+use lib.ListN.{length, drop, length-append, length-drop}
 use Rattle.walks.specs.Graph.{Graph}
 use Rattle.walks.specs.Avoid.{occurs, occurs→Occurs}
 use Rattle.walks.specs.Best.{Best, None, Best·not-None}
 use Rattle.book.specs.declared.Refusal.{Refusal}
 use Rattle.book.specs.declared.Refusal.the-variants.{NotStanding, Full}
 use Rattle.book.specs.Refusal.{firstFailure}
-use Rattle.book.specs.Tables.{padded, entries}
-use Rattle.rules.specs.Area.{areaSize}
+use Rattle.rules.specs.Area.{areaSize, written}
+use Rattle.rules.specs.ValidLaws.{written-length}
 use Rattle.trials.specs.Trials.{Report, passed, failed, State, pathArea, standing, trials, takes, hasRoom, passedIn, Valid, Plan, refusal, overlaid, step, unless, run, accepted, named, failures, passes, replanned, Begin, begun, stateAfter, acceptedOf}
-use Rattle.trials.specs.Tests.{takes→IsPath}
+use Rattle.trials.specs.OperationLaws.{set-paths, set-once}
 use Rattle.trials.specs.Accepted.{begin-accepted, oracleTests, only-oracle}
 use Rattle.trials.specs.Invariant.{Invariant, invariant-begin, invariant-step, kept, anything}
 
@@ -40,7 +40,7 @@ module _ (b : Begin) where
     -- the known paths: the binding ones, then those named, in order
     pub forbidden : σ .forbidden ≡ F₀ ++ named done
     -- every byte of both areas
-    pub path-bytes : pathArea σ ≡ padded areaSize (entries (F₀ ++ named done)) ++ drop areaSize paths
+    pub path-bytes : pathArea σ ≡ written (F₀ ++ named done) ++ drop areaSize paths
     pub path-length : length (pathArea σ) ≡ length paths
     pub area-bytes : σ .area ≡ replanned plan s t F₀ (named done) (overlaid (plan F₀ s t) area)
     pub area-length : length (σ .area) ≡ length area
@@ -54,13 +54,6 @@ module _ (b : Begin) where
     pub refusals : (ρ : Report) → refusal g σ ρ ≡ firstFailure (oracleTests g σ ρ)
 
 -- ---- proof
--- The entries of a forbidden set take 9 bytes each.
-length-entries : (F : List (List ℕ)) → ((r : List ℕ) → List·Memᴰ r F → length r ≤ 8) → length (entries F) ≡ length F * 9
-unfolding entries
-length-entries [] h = refl
-length-entries (r ∷ F) h =
-    simp (length-append, length-replicate, length-entries F (λ q m. h q (List·Memᴰ·tail m))) (omega (arith, h r (List·Memᴰ·head refl)))
-
 count-all : (ρs : List Report) → failures ρs + passes ρs ≡ length ρs
 unfolding named passes
 count-all [] = refl
@@ -79,7 +72,8 @@ claimed b done σ c =
     let v = c .valid in
     let g = b .graph in
     let a = begin-accepted b in
-    let bytes = length-entries (σ .forbidden) (λ r m. takes→IsPath (g .count) r (v .set .taken r m) .eight) in
+    let F = σ .forbidden in
+    let full = written-length (g .count) F (v .set .few) (set-paths (g .count) F (v .set)) (set-once (g .count) F (v .set)) [] in
     record {
       start = c .start;
       end = c .end;
@@ -90,8 +84,7 @@ claimed b done σ c =
       trials-count = omega (arith, c .failed-count, c .passed-count, count-all done);
       forbidden = c .forbidden;
       path-bytes = rw (c .forbidden, c .beyond) refl;
-      path-length =
-          simp (length-append, length-replicate, c .beyond, length-drop) (omega (arith, bytes, v .set .few, a .paths-fit));
+      path-length = length-append (written F) (σ .beyond) ∙ omega (arith, full, ap length (c .beyond) ∙ length-drop areaSize (b .paths), a .paths-fit);
       area-bytes = c .area-bytes;
       area-length = c .area-length;
       valid = v;
