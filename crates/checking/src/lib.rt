@@ -4,6 +4,7 @@ use book::Refusal;
 use cases::number;
 use cases::text;
 use cases::wide;
+use cases::word;
 use rules::AREA;
 use rules::Bound;
 use rules::Checked;
@@ -29,10 +30,6 @@ pub fn check_case(input: &[u8]) {
         Bound::Known(count) => print(rules::check(bytes, &area, count, walk)),
         Bound::Refused(r) => cases::refusal(r),
     }
-}
-
-fn word(high: u8, low: u8) -> u16 {
-    (high as u16) * 256 + (low as u16)
 }
 
 fn print(answer: Checked) {

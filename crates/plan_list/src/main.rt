@@ -4,7 +4,7 @@ ghost use Rattle.planner.specs.Planning.{PlanningOf};
 ghost use Rattle.listed.specs.Listing.{listing};
 use cases::number;
 use cases::text;
-use cases::wide;
+use cases::write_walk;
 use listed::Arc;
 use planner::LONGEST;
 use planner::Outcome;
@@ -23,21 +23,6 @@ fn arcs_a() -> [Arc; 6] {
         arc(2, 1, 50),
         arc(1, 3, 400),
     ]
-}
-
-// The vertices of a walk, one blank between.
-fn write_walk(area: &[u8], n: usize) {
-    let mut i = 0;
-    while i < area.len() {
-        if i < n {
-            if 0 < i {
-                text(b" ");
-            }
-            io::print_decimal(libc::STDOUT_FILENO, wide(area[i]) as u64);
-        }
-        i += 1;
-    }
-    text(b"\n");
 }
 
 fn write_outcome(outcome: Outcome, walk: &[u8]) {

@@ -11,16 +11,15 @@ use trials::Made;
 use trials::Record;
 use trials::Reported;
 
-// Begins, makes each report, and prints what each leaves.
+// Replays one case, and prints what begin and each report leave.
 pub fn replay_case(input: &[u8]) {
     let size = input.len();
     if size < 8 {
         cases::refusal(Refusal::Truncated(0));
         return;
     }
-    let flags = word(input[0], input[1]);
-    let length = ((wide(input[4]) * 256 + wide(input[5])) * 256 + wide(input[6])) * 256
-        + wide(input[7]);
+    let flags = cases::word(input[0], input[1]);
+    let length = cases::long(input[4], input[5], input[6], input[7]);
     if size - 8 < length {
         cases::refusal(Refusal::Truncated(0));
         return;
@@ -29,82 +28,138 @@ pub fn replay_case(input: &[u8]) {
     replay(&input[8..end], flags, input[2], input[3], &input[end..]);
 }
 
-fn word(high: u8, low: u8) -> u16 {
-    (high as u16) * 256 + (low as u16)
-}
-
+// Makes the reports one by one, and then the whole list anew: both are to leave the same.
 fn replay(bytes: &[u8], flags: u16, start: u8, end: u8, reports: &[u8]) {
     let mut paths = [0u8; AREA];
     let mut walk = [0u8; LONGEST];
-    match trials::begin(bytes, flags, start, end, &mut paths, &mut walk) {
-        Begun::Refused(r) => cases::refusal(r),
-        Begun::Record(first) => {
-            print(first, &walk);
-            let mut record = first;
-            let mut at = 0;
-            while at < reports.len() {
-                let made = trials::make(bytes, record, reports, at, &mut paths, &mut walk);
-                let Made::Report(reported, next) = made else {
-                    return;
-                };
-                record = answer(reported, &walk);
-                at = next;
-            }
-        }
-    }
+    let mut paths_anew = [0u8; AREA];
+    let mut walk_anew = [0u8; LONGEST];
+    let stepped = step(bytes, flags, start, end, reports, &mut paths, &mut walk);
+    let whole = trials::replay(
+        bytes,
+        flags,
+        start,
+        end,
+        reports,
+        &mut paths_anew,
+        &mut walk_anew,
+    );
+    let same = same_answer(stepped, whole);
+    compare(same, &paths, &paths_anew, &walk, &walk_anew);
 }
 
-// Prints what a report leaves, and hands its record on.
-fn answer(reported: Reported, walk: &[u8]) -> Record {
-    match reported {
-        Reported::Accepted(record) => {
-            print(record, walk);
-            record
-        }
-        Reported::Refused(r, record) => {
+// Begins, makes each report, and prints what each leaves.
+fn step(
+    bytes: &[u8],
+    flags: u16,
+    start: u8,
+    end: u8,
+    reports: &[u8],
+    paths: &mut [u8],
+    walk: &mut [u8],
+) -> Begun {
+    let begun = trials::begin(bytes, flags, start, end, paths, walk);
+    match begun {
+        Begun::Refused(r) => {
             cases::refusal(r);
-            record
+            begun
+        }
+        Begun::Record(first) => {
+            print(first, walk);
+            Begun::Record(make_all(bytes, first, reports, paths, walk))
         }
     }
 }
 
-fn print(record: Record, walk: &[u8]) {
+fn make_all(
+    bytes: &[u8],
+    first: Record,
+    reports: &[u8],
+    paths: &mut [u8],
+    walk: &mut [u8],
+) -> Record {
+    let mut rec = first;
+    let mut at = 0;
+    while at < reports.len() {
+        let made = trials::make(bytes, rec, reports, at, paths, walk);
+        let Made::Report(reported, next) = made else {
+            return rec;
+        };
+        answer(reported, walk);
+        rec = trials::record_of(reported);
+        at = next;
+    }
+    rec
+}
+
+// Prints what a report leaves.
+fn answer(reported: Reported, walk: &[u8]) {
+    match reported {
+        Reported::Accepted(rec) => print(rec, walk),
+        Reported::Refused(r, _) => cases::refusal(r),
+    }
+}
+
+fn print(rec: Record, walk: &[u8]) {
     text(b"STAGE");
-    number(record.stage);
+    number(rec.stage);
     text(b" START");
-    number(wide(record.start));
+    number(wide(rec.start));
     text(b" END");
-    number(wide(record.end));
+    number(wide(rec.end));
     text(b" KNOWN");
-    number(record.known);
+    number(rec.known);
     text(b" AT-START");
-    number(record.first);
+    number(rec.first);
     text(b" FAILED");
-    number(record.failed);
+    number(rec.failed);
     text(b" PASSED");
-    number(record.passed);
+    number(rec.passed);
     text(b" LITRES ");
-    io::print_decimal(libc::STDOUT_FILENO, record.litres);
+    io::print_decimal(libc::STDOUT_FILENO, rec.litres);
     text(b" LENGTH");
-    number(record.length);
+    number(rec.length);
     text(b"\n");
-    if record.stage != 2 {
-        let length = record.length;
-        write_walk(walk, length);
+    if rec.stage != 2 {
+        let length = rec.length;
+        cases::write_walk(walk, length);
     }
 }
 
-// The vertices of a walk, one blank between.
-fn write_walk(area: &[u8], n: usize) {
-    let mut i = 0;
-    while i < area.len() {
-        if i < n {
-            if 0 < i {
-                text(b" ");
-            }
-            io::print_decimal(libc::STDOUT_FILENO, wide(area[i]) as u64);
-        }
-        i += 1;
+// A line more where two answers or a byte of their areas differ.
+fn compare(same: bool, paths: &[u8], paths_anew: &[u8], walk: &[u8], walk_anew: &[u8]) {
+    if !same || !check::same(paths, paths_anew) || !check::same(walk, walk_anew) {
+        text(b"DIFFERENT\n");
     }
-    text(b"\n");
+}
+
+fn same_answer(a: Begun, b: Begun) -> bool {
+    match a {
+        Begun::Record(x) => match b {
+            Begun::Record(y) => same_record(x, y),
+            Begun::Refused(_) => false,
+        },
+        Begun::Refused(x) => match b {
+            Begun::Record(_) => false,
+            Begun::Refused(y) => same_refusal(x, y),
+        },
+    }
+}
+
+fn same_record(x: Record, y: Record) -> bool {
+    x.stage == y.stage
+        && x.start == y.start
+        && x.end == y.end
+        && x.known == y.known
+        && x.first == y.first
+        && x.failed == y.failed
+        && x.passed == y.passed
+        && x.litres == y.litres
+        && x.length == y.length
+}
+
+fn same_refusal(x: Refusal, y: Refusal) -> bool {
+    let a = book::number_of(x);
+    let b = book::number_of(y);
+    a.number == b.number && a.placed == b.placed && a.place == b.place
 }

@@ -14,47 +14,20 @@ read-full-requires c κs = search needs
 returns : tie.Need-returns
 returns c = search needs
 
-array-read-wide : tie.Need-array-read-wide
-array-read-wide c = search needs
+array-read-long : tie.Need-array-read-long
+array-read-long c = search needs
 
-wide-requires : tie.Need-wide-requires
-wide-requires c κs = search needs
+array-read-long-2 : tie.Need-array-read-long-2
+array-read-long-2 c = search needs
 
-mul-size : tie.Need-mul-size
-mul-size c = search needs
+array-read-long-3 : tie.Need-array-read-long-3
+array-read-long-3 c = search needs
 
-array-read-wide-2 : tie.Need-array-read-wide-2
-array-read-wide-2 c = search needs
+array-read-long-4 : tie.Need-array-read-long-4
+array-read-long-4 c = search needs
 
-wide-requires-2 : tie.Need-wide-requires-2
-wide-requires-2 c κs = search needs
-
-add-size : tie.Need-add-size
-add-size c = search needs
-
-mul-size-2 : tie.Need-mul-size-2
-mul-size-2 c = search needs
-
-array-read-wide-3 : tie.Need-array-read-wide-3
-array-read-wide-3 c = search needs
-
-wide-requires-3 : tie.Need-wide-requires-3
-wide-requires-3 c κs = search needs
-
-add-size-2 : tie.Need-add-size-2
-add-size-2 c = search needs
-
-mul-size-3 : tie.Need-mul-size-3
-mul-size-3 c = search needs
-
-array-read-wide-4 : tie.Need-array-read-wide-4
-array-read-wide-4 c = search needs
-
-wide-requires-4 : tie.Need-wide-requires-4
-wide-requires-4 c κs = search needs
-
-add-size-3 : tie.Need-add-size-3
-add-size-3 c = search needs
+long-requires : tie.Need-long-requires
+long-requires c κs = search needs
 
 returns-2 : tie.Need-returns-2
 returns-2 c = search needs
@@ -87,20 +60,11 @@ next-case-spec =
     slice-aggregate-read-full
     read-full-requires
     returns
-    array-read-wide
-    wide-requires
-    mul-size
-    array-read-wide-2
-    wide-requires-2
-    add-size
-    mul-size-2
-    array-read-wide-3
-    wide-requires-3
-    add-size-2
-    mul-size-3
-    array-read-wide-4
-    wide-requires-4
-    add-size-3
+    array-read-long
+    array-read-long-2
+    array-read-long-3
+    array-read-long-4
+    long-requires
     returns-2
     slice-relend-prefix-read-full
     slice-aggregate-read-full-2

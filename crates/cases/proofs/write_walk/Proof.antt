@@ -3,8 +3,8 @@ use lib.ListN.{length}
 use mathlib.Core.Path.{_≡_}
 use Prim.Native.Nat.{_-_, _≤_}
 use borrow.Author.Needs.{needs}
-use Rattle.plan_list.proofs.write_walk.Statement.{statement}
-use Rattle.plan_list.proofs.write_walk.Tie as tie
+use Rattle.cases.proofs.write_walk.Statement.{statement}
+use Rattle.cases.proofs.write_walk.Tie as tie
 
 abbrev Inv-loop : tie.InvT-loop
 Inv-loop area n i₀ t4 t5 i = (i ≤ length area) × (1 ≡ length t4) × (1 ≡ length t5)
