@@ -7,12 +7,7 @@ ghost use Rattle.automaton.specs.Area.{Spells, Bounded, Given};
 ghost use Rattle.automaton.specs.Built.{Built};
 ghost use Rattle.automaton.specs.Progress.{Progress, Reached, Waiting};
 ghost use Rattle.automaton.specs.Rows.{Filled, Copied, Singles, Starts};
-
-fn wide(x: u8) -> usize
-    ensures { λ r. ⌜ r ≡ x ⌝ }
-{
-    x as usize
-}
+use lists::wide;
 
 fn index(x: u16) -> usize
     ensures { λ r. ⌜ r ≡ x ⌝ }

@@ -14,6 +14,7 @@ use crate::Counts;
 use crate::Kind;
 use crate::NO_ARC;
 use crate::Refusal;
+use lists::wide;
 
 fn kind_of(tag: u8) -> Kind
     ensures { λ r. ⌜ r ≡ kindOf tag ⌝ }
@@ -49,13 +50,6 @@ fn fits(kind: Kind, n: usize) -> bool
         Kind::Path => 2 <= n && n <= 8,
         Kind::Unknown => false,
     }
-}
-
-fn wide(x: u8) -> usize
-    ensures { λ r. ⌜ r ≡ x ⌝ }
-    ensures { λ r. ⌜ r < 256 ⌝ }
-{
-    x as usize
 }
 
 // Numbers, high byte first.

@@ -5,6 +5,7 @@ ghost use Rattle.cases.specs.Next.{FitsIn};
 use book::Refusal;
 use libc::STDIN_FILENO;
 use libc::STDOUT_FILENO;
+pub use lists::wide;
 
 pub enum Next {
     Case(usize),
@@ -28,13 +29,6 @@ pub fn next_case(buffer: &mut [u8]) -> Next
         return Next::End;
     }
     Next::Case(size)
-}
-
-pub fn wide(x: u8) -> usize
-    ensures { λ r. ⌜ r ≡ x ⌝ }
-    ensures { λ r. ⌜ r < 256 ⌝ }
-{
-    x as usize
 }
 
 // Two bytes as a number, high byte first.

@@ -9,6 +9,7 @@ ghost use Rattle.listed.specs.Listing.{arcOf, counted as Listing·counte
 ghost use Rattle.listed.specs.Standing.{Holds, Stands, goesOn, verdictOf};
 use book::NO_ARC;
 use book::Refusal;
+use lists::wide;
 use planner::Outcome;
 
 // An item of the list (01: a changeover, with its litres).
@@ -22,12 +23,6 @@ pub struct Arc {
 enum Verdict {
     Good,
     Refused(Refusal),
-}
-
-fn wide(x: u8) -> usize
-    ensures { λ r. ⌜ r ≡ x ⌝ }
-{
-    x as usize
 }
 
 // The count of vertices, before any item.

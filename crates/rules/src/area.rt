@@ -9,13 +9,7 @@ ghost use Rattle.rules.specs.Area.{blocks, areaSize};
 ghost use Rattle.rules.specs.Area.{isEntry as Area·isEntry, valid as Area·valid};
 use crate::AREA;
 use book::simple;
-
-pub fn wide(x: u8) -> usize
-    ensures { λ r. ⌜ r ≡ x ⌝ }
-    ensures { λ r. ⌜ r < 256 ⌝ }
-{
-    x as usize
-}
+use lists::wide;
 
 pub fn copy(src: &[u8], from: usize, dst: &mut [u8], to: usize, n: usize)
     requires { ⌜ from + n ≤ length (now src) ⌝ }

@@ -9,7 +9,7 @@ ghost use Rattle.rules.specs.Area.{areaSize, written};
 ghost use Rattle.rules.specs.Listed.{Listed};
 use crate::area::copy;
 use crate::area::found;
-use crate::area::wide;
+use lists::wide;
 
 // Whether each of the needed flags is held.
 fn applies(needed: u16, held: u16) -> bool

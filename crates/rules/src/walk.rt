@@ -7,8 +7,8 @@ ghost use Rattle.book.specs.Tables.{weightTable};
 ghost use Rattle.rules.specs.Area.{blocks, spelled};
 ghost use Rattle.rules.specs.Checking.{occurrence, checkable};
 use crate::Checked;
-use crate::area::wide;
 use book::NO_ARC;
+use lists::wide;
 
 // How many vertices a walk that is checked may have.
 const LONGEST: usize = 1600;

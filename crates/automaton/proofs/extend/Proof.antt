@@ -17,7 +17,7 @@ level : (c : tie.Else1) → c .before .before .before .before .args .level < 8
 level c =
     let read = c .before in
     let start = read .before .before .before in
-    low-level (start .pre .2 .spells) (start .pre .1) (start .pre .2 .so-far) (read .wide .ensures) (c .if1 .left)
+    low-level (start .pre .2 .spells) (start .pre .1) (start .pre .2 .so-far) (read .wide .ensures .0) (c .if1 .left)
 
 -- the state and the vertex that are read
 cell : (c : tie.After-wide2) → let start = c .before .before .before .before .before .before .before .before in
@@ -25,7 +25,7 @@ cell : (c : tie.After-wide2) → let start = c .before .before .before .before .
 cell c =
     let read = c .before .before .before .before .before in
     let start = read .before .before .before in
-    cell-room (start .pre .2 .spells) (start .pre .1) (start .pre .2 .so-far) (read .wide .ensures) (c .before .before .before .before .if1 .left) (c .before .before .index .ensures) (c .wide2 .ensures)
+    cell-room (start .pre .2 .spells) (start .pre .1) (start .pre .2 .so-far) (read .wide .ensures .0) (c .before .before .before .before .if1 .left) (c .before .before .index .ensures) (c .wide2 .ensures .0)
 
 -- a new state has a number
 grows : (c : tie.Else3) → c .before .before .before .before .before .before .before .before .before .before .before .before .args .states + 1 ≤ 1600
@@ -33,7 +33,7 @@ grows c =
     let at = c .before .before .before .before in
     let read = at .before .before .before .before .before in
     let start = read .before .before .before in
-    turn-room (start .pre .2 .spells) (start .pre .1) (start .pre .2 .so-far) (read .wide .ensures) (at .before .before .before .before .if1 .left) (at .before .before .index .ensures) (at .wide2 .ensures) (c .before .before .before .if2 .left) (omega (arith, c .if3 .left, c .before .index2 .ensures))
+    turn-room (start .pre .2 .spells) (start .pre .1) (start .pre .2 .so-far) (read .wide .ensures .0) (at .before .before .before .before .if1 .left) (at .before .before .index .ensures) (at .wide2 .ensures .0) (c .before .before .before .if2 .left) (omega (arith, c .if3 .left, c .before .index2 .ensures))
 
 mul-wide : tie.Need-mul-wide
 mul-wide c = omega (arith, entry (c .before))
@@ -47,7 +47,7 @@ wide-requires c κs = search needs
 returns : tie.Need-returns
 returns c =
     let read = c .before in
-    λ F n count s within p. turn-passed s within p (read .wide .ensures) (c .if1 .taken)
+    λ F n count s within p. turn-passed s within p (read .wide .ensures .0) (c .if1 .taken)
 
 mul-index : tie.Need-mul-index
 mul-index c = omega (arith, entry (c .before .before .before .before))
@@ -95,7 +95,7 @@ returns-2 : tie.Need-returns-2
 returns-2 c =
     let at = c .before .before in
     let read = at .before .before .before .before .before in
-    λ F n count s within p. turn-forbids s within p (read .wide .ensures) (at .before .before .before .before .if1 .left) (at .before .before .index .ensures) (at .wide2 .ensures) (c .before .if2 .taken)
+    λ F n count s within p. turn-forbids s within p (read .wide .ensures .0) (at .before .before .before .before .if1 .left) (at .before .before .index .ensures) (at .wide2 .ensures .0) (c .before .if2 .taken)
 
 mul-cell : tie.Need-mul-cell
 mul-cell c = omega (arith, cell (c .before))
@@ -122,7 +122,7 @@ returns-3 : tie.Need-returns-3
 returns-3 c =
     let at = c .before .before .before .before in
     let read = at .before .before .before .before .before in
-    λ F n count s within p. turn-found s within p (read .wide .ensures) (at .before .before .before .before .if1 .left) (at .before .before .index .ensures) (at .wide2 .ensures) (c .before .before .before .if2 .left) (omega (arith, c .if3 .taken, c .before .index2 .ensures))
+    λ F n count s within p. turn-found s within p (read .wide .ensures .0) (at .before .before .before .before .if1 .left) (at .before .before .index .ensures) (at .wide2 .ensures .0) (c .before .before .before .if2 .left) (omega (arith, c .if3 .taken, c .before .index2 .ensures))
 
 cast-new : tie.Need-cast-new
 cast-new c = omega (arith, grows c)
@@ -158,7 +158,7 @@ returns-4 : tie.Need-returns-4
 returns-4 c =
     let at = c .before .before .before .before in
     let read = at .before .before .before .before .before in
-    λ F n count s within p. turn-grown s within p (read .wide .ensures) (at .before .before .before .before .if1 .left) (at .before .before .index .ensures) (at .wide2 .ensures) (c .before .before .before .if2 .left) (omega (arith, c .if3 .left, c .before .index2 .ensures))
+    λ F n count s within p. turn-grown s within p (read .wide .ensures .0) (at .before .before .before .before .if1 .left) (at .before .before .index .ensures) (at .wide2 .ensures .0) (c .before .before .before .if2 .left) (omega (arith, c .if3 .left, c .before .index2 .ensures))
 
 pub extend-spec : {M : Type 1} → statement M
 extend-spec =

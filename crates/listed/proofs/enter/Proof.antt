@@ -49,8 +49,8 @@ arc-of c =
 arc-is : (c : tie.After-proper-arc) → arc-of c ≡ arcOf (c .before .before .before .before .args .arc)
 arc-is c =
     λ k. record {
-      tail = c .before .before .before .wide .ensures k;
-      head = c .before .before .wide2 .ensures k;
+      tail = c .before .before .before .wide .ensures .0 k;
+      head = c .before .before .wide2 .ensures .0 k;
       weight = c .before .before .before .before .args .arc .weight;
     }
 
