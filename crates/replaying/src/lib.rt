@@ -6,8 +6,8 @@ use cases::text;
 use cases::wide;
 use planner::LONGEST;
 use rules::AREA;
+use series::Made;
 use trials::Begun;
-use trials::Made;
 use trials::Record;
 use trials::Reported;
 
@@ -35,7 +35,7 @@ fn replay(bytes: &[u8], flags: u16, start: u8, end: u8, reports: &[u8]) {
     let mut paths_anew = [0u8; AREA];
     let mut walk_anew = [0u8; LONGEST];
     let stepped = step(bytes, flags, start, end, reports, &mut paths, &mut walk);
-    let whole = trials::replay(
+    let whole = series::replay(
         bytes,
         flags,
         start,
@@ -81,12 +81,12 @@ fn make_all(
     let mut rec = first;
     let mut at = 0;
     while at < reports.len() {
-        let made = trials::make(bytes, rec, reports, at, paths, walk);
+        let made = series::make(bytes, rec, reports, at, paths, walk);
         let Made::Report(reported, next) = made else {
             return rec;
         };
         answer(reported, walk);
-        rec = trials::record_of(reported);
+        rec = series::record_of(reported);
         at = next;
     }
     rec

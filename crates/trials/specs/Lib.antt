@@ -5,7 +5,6 @@ pub mod Steps
 pub mod Operations
 pub mod Replanning
 pub mod Judging
-pub mod Replay
 pub mod Tests
 pub mod Plans
 pub mod Accepted

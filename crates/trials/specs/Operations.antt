@@ -83,6 +83,11 @@ reportingOf (refused x) r paths walk ρ = left (Reported.Refused x r) paths walk
 abbrev pub reporting : List ℕ → Record → List ℕ → List ℕ → Report → Left Reported
 reporting s r paths walk ρ = reportingOf (reading s) r paths walk ρ
 
+-- The record that a report leaves.
+abbrev pub recordIn : Reported → Record
+recordIn (Reported.Accepted r) = r
+recordIn (Reported.Refused x r) = r
+
 -- ---- begin and a list of reports
 abbrev pub replayingOf : Reading → ℕ → ℕ → ℕ → List ℕ → List ℕ → List ℕ → Left Begun
 replayingOf (accepted b) flags start end reports paths walk =

@@ -12,10 +12,9 @@ use Rattle.trials.specs.declared.Record.{Record}
 use Rattle.trials.specs.declared.Begun.{Begun}
 use Rattle.trials.specs.declared.Reported.{Reported}
 use Rattle.trials.specs.Trials.{Report, State, pathArea, beginRefusal, refusal, Valid, unless, step, after, run, Begin, begun, stateAfter, acceptedOf}
-use Rattle.trials.specs.Operations.{Left, left, begunAs, beginningOf, beginning, reportedAs, reportingOf, reporting, replayingOf, replaying}
+use Rattle.trials.specs.Operations.{Left, left, begunAs, beginningOf, beginning, reportedAs, reportingOf, reporting, replayingOf, replaying, recordIn}
 use Rattle.trials.specs.OperationLaws.{same-step}
 use Rattle.trials.specs.Reports.{reportsOf}
-use Rattle.trials.specs.Replay.{recordIn}
 use Rattle.trials.specs.Replanning.{trialsOf}
 use Rattle.trials.specs.Invariant.{Invariant, invariant-begin, invariant-step}
 use Rattle.trials.specs.Claim.{Claim, claim}

@@ -2,16 +2,12 @@
 mod judge;
 mod opening;
 mod report;
-mod series;
 mod steps;
 
 use book::Refusal;
 pub use opening::begin;
 pub use report::report_failed;
 pub use report::report_passed;
-pub use series::make;
-pub use series::record_of;
-pub use series::replay;
 
 // The record of 01. The stage is 0 while a walk (01: line-up) stands, 1 once it has passed, 2 where there is none.
 pub struct Record {
@@ -39,10 +35,4 @@ pub enum Begun {
 pub enum Reported {
     Accepted(Record),
     Refused(Refusal, Record),
-}
-
-// A report of a list has been made, and ends at that place; or the list is at its end.
-pub enum Made {
-    Report(Reported, usize),
-    End,
 }

@@ -9,9 +9,9 @@ use denote.Ref.{now}
 use lib.ListN.{length, drop}
 use Rattle.trials.specs.declared.Record.{Record}
 use Rattle.trials.specs.declared.Reported.{Reported}
-use Rattle.trials.specs.declared.Made.{Made}
+use Rattle.series.specs.declared.Made.{Made}
 use Rattle.trials.specs.Operations.{Left, left, reporting}
-use Rattle.trials.specs.Replay.{madeIf, making}
+use Rattle.series.specs.Making.{madeIf, making}
 use Rattle.trials.specs.Reports.{isReport, reportIn, sizeOf}
 use Rattle.trials.specs.ReportsLaws.{size-positive}
 use Rattle.replaying.proofs.make_all.Statement.{statement}

@@ -1,9 +1,9 @@
--- `trials::series::record_of` meets its contract.
+-- `series::record_of` meets its contract.
 use borrow.Author.Needs.{needs}
 use mathlib.Core.Path.{sym, ap}
-use Rattle.trials.specs.Replay.{recordIn}
-use Rattle.trials.proofs.series.record_of.Statement.{statement}
-use Rattle.trials.proofs.series.record_of.Tie as tie
+use Rattle.trials.specs.Operations.{recordIn}
+use Rattle.series.proofs.record_of.Statement.{statement}
+use Rattle.series.proofs.record_of.Tie as tie
 
 enum-known-reported : tie.Need-enum-known-reported
 enum-known-reported c = search needs

@@ -3,18 +3,12 @@ use Prim.Native.Nat.{ℕ, _+_}
 use mathlib.Core.Bool.{Bool, true, false}
 use mathlib.Core.List.{List}
 use lib.ListN.{drop}
 use Rattle.trials.specs.declared.Record.{Record}
 use Rattle.trials.specs.declared.Reported.{Reported}
-use Rattle.trials.specs.declared.Reported.the-variants.{Accepted, Refused}
-use Rattle.trials.specs.declared.Made.{Made}
-use Rattle.trials.specs.declared.Made.the-variants.{Report, End}
+use Rattle.series.specs.declared.Made.{Made}
+use Rattle.series.specs.declared.Made.the-variants.{Report, End}
 use Rattle.trials.specs.Operations.{Left, left, reporting}
 use Rattle.trials.specs.Reports.{isReport, reportIn, sizeOf}
-
--- The record that a report leaves.
-abbrev pub recordIn : Reported → Record
-recordIn (Accepted r) = r
-recordIn (Refused x r) = r
 
 -- What is made of a report that ends at a place.
 abbrev pub madeOf : Left Reported → ℕ → Left Made

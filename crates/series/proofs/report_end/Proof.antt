@@ -1,10 +1,10 @@
--- `trials::series::report_end` meets its contract.
+-- `series::report_end` meets its contract.
 use borrow.Author.Needs.{needs}
 use Prim.Native.Nat.{_+_}
 use native.Mathlib.Omega.{arith}
-use Rattle.trials.proofs.Listed.{inside, named-inside, passed-size, failed-size}
-use Rattle.trials.proofs.series.report_end.Statement.{statement}
-use Rattle.trials.proofs.series.report_end.Tie as tie
+use Rattle.series.proofs.Listed.{inside, named-inside, passed-size, failed-size}
+use Rattle.series.proofs.report_end.Statement.{statement}
+use Rattle.series.proofs.report_end.Tie as tie
 
 shared-slice-read-if1 : tie.Need-shared-slice-read-if1
 shared-slice-read-if1 c = inside (c .before .args .reports .now) (c .before .args .at) (c .before .pre)

@@ -1,10 +1,10 @@
--- `trials::series::is_report` meets its contract.
+-- `series::is_report` meets its contract.
 use borrow.Author.Needs.{needs}
 use native.Mathlib.Omega.{arith}
 use Prim.Native.Nat.{_+_}
-use Rattle.trials.proofs.Listed.{at-end, is-passed, unknown, cut-head, by-length}
-use Rattle.trials.proofs.series.is_report.Statement.{statement}
-use Rattle.trials.proofs.series.is_report.Tie as tie
+use Rattle.series.proofs.Listed.{at-end, is-passed, unknown, cut-head, by-length}
+use Rattle.series.proofs.is_report.Statement.{statement}
+use Rattle.series.proofs.is_report.Tie as tie
 
 returns : tie.Need-returns
 returns c = at-end (c .before .args .reports .now) (c .before .args .at) (c .if1 .taken)

@@ -1,4 +1,4 @@
--- `trials::make` meets its contract: the report at the place, if there is one.
+-- `series::make` meets its contract: the report at the place, if there is one.
 use borrow.Author.Needs.{needs}
 use borrow.Author.Tests.{not-true, not-false}
 use native.Mathlib.Omega.{arith}
@@ -7,13 +7,13 @@ use mathlib.Core.Bool.{Bool, true}
 use mathlib.Core.Path.{_≡_, sym, ap, ap₂, _∙_}
 use lib.ListN.{getD, take, drop}
 use Prim.Native.Nat.{_+_, _-_}
 use Rattle.trials.specs.Trials.{failed}
 use Rattle.trials.specs.Operations.{reporting}
 use Rattle.trials.specs.Reports.{isReport, reportIn, sizeOf}
-use Rattle.trials.specs.Replay.{madeOf, madeIf}
-use Rattle.trials.proofs.Listed.{inside, named-inside, failed-size, passed-report, failed-report}
-use Rattle.trials.proofs.series.make.Statement.{statement}
-use Rattle.trials.proofs.series.make.Tie as tie
+use Rattle.series.specs.Making.{madeOf, madeIf}
+use Rattle.series.proofs.Listed.{inside, named-inside, failed-size, passed-report, failed-report}
+use Rattle.series.proofs.make.Statement.{statement}
+use Rattle.series.proofs.make.Tie as tie
 
 -- there is a report
 is-one : (c : tie.Else1) → let a = c .before .before .before .before .before .before .args in isReport (drop (a .at) (now (a .reports))) ≡ true

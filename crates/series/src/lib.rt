@@ -1,19 +1,24 @@
-// A list of reports as bytes: 0 is passed; 1, a number n and n vertices is failed, and names them. A report that is cut short ends
+// Trials over a list of reports as bytes: 0 is passed; 1, a number n and n vertices is failed, and names them. A report that is cut short ends
 // the list, and so does any other first byte.
 ghost use mathlib.Core.Path.{_≡_};
 ghost use mathlib.Core.Bool.{true};
 ghost use Prim.Native.Nat.{_+_, _≤_};
 ghost use lib.ListN.{length, drop};
-ghost use Rattle.trials.specs.Operations.{left, replaying};
+ghost use Rattle.trials.specs.Operations.{left, recordIn, replaying};
 ghost use Rattle.trials.specs.Reports.{isReport, sizeOf};
-ghost use Rattle.trials.specs.Replay.{making, recordIn};
-use crate::Begun;
-use crate::Made;
-use crate::Record;
-use crate::Reported;
-use crate::opening::begin;
-use crate::report::report_failed;
-use crate::report::report_passed;
+ghost use Rattle.series.specs.Making.{making};
+use trials::Begun;
+use trials::Record;
+use trials::Reported;
+use trials::begin;
+use trials::report_failed;
+use trials::report_passed;
+
+// A report of a list has been made, and ends at that place; or the list is at its end.
+pub enum Made {
+    Report(Reported, usize),
+    End,
+}
 
 // Whether there is a report at a place.
 fn is_report(reports: &[u8], at: usize) -> bool

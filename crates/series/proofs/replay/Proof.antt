@@ -1,4 +1,4 @@
--- `trials::replay` meets its contract: begin, and each report in turn.
+-- `series::replay` meets its contract: begin, and each report in turn.
 use borrow.Author.Needs.{needs}
 use denote.Ref.{now}
 use native.Mathlib.Omega.{arith}
@@ -6,15 +6,14 @@ use mathlib.Core.List.{List}
 use mathlib.Core.Path.{_≡_, refl, sym, subst}
 use lib.ListN.{length, drop}
 use Prim.Native.Nat.{ℕ, _+_, _-_}
 use Rattle.trials.specs.declared.Record.{Record}
-use Rattle.trials.specs.Operations.{left}
-use Rattle.trials.specs.Replay.{recordIn}
+use Rattle.trials.specs.Operations.{left, recordIn}
 use Rattle.trials.specs.Reports.{sizeOf}
 use Rattle.trials.specs.ReportsLaws.{size-positive}
-use Rattle.trials.proofs.Listed.{at-end}
-use Rattle.trials.proofs.Replaying.{Replayed, not-begun, replayed-begin, replayed-end, replayed-made, replayed-last}
-use Rattle.trials.proofs.series.replay.Statement.{statement}
-use Rattle.trials.proofs.series.replay.Tie as tie
+use Rattle.series.proofs.Listed.{at-end}
+use Rattle.series.proofs.Replaying.{Replayed, not-begun, replayed-begin, replayed-end, replayed-made, replayed-last}
+use Rattle.series.proofs.replay.Statement.{statement}
+use Rattle.series.proofs.replay.Tie as tie
 
 abbrev Inv-loop : tie.InvT-loop
 Inv-loop bytes flags start end reports paths₀ walk₀ rec₀ at₀ paths walk rec at =
