@@ -25,7 +25,8 @@ use Rattle.rules.specs.Laws.{bind-accepted}
 use Rattle.search.specs.Plan.{PlannedWalk}
 use Rattle.planner.specs.declared.Outcome.{Outcome}
 use Rattle.planner.specs.declared.Outcome.the-variants.{Walk, Nothing, Refused}
-use Rattle.planner.specs.Planning.{longest, Planned, Planning}
+use Rattle.rules.specs.Checking.{longest}
+use Rattle.planner.specs.Planning.{Planned, Planning}
 use Rattle.planner.specs.RuleSets.{planned-known}
 use Rattle.answer.specs.Text.{planText, walkText, refusalText, outcomeText}
 use Rattle.answer.specs.Writing.{Standing}

@@ -6,9 +6,9 @@ use cases::number;
 use cases::text;
 use cases::write_walk;
 use listed::Arc;
-use planner::LONGEST;
 use planner::Outcome;
 use rules::AREA;
+use rules::LONGEST;
 
 fn arc(tail: u8, head: u8, weight: u32) -> Arc {
     Arc { tail, head, weight }

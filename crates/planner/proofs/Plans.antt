@@ -16,7 +16,8 @@ use Rattle.search.specs.declared.Found.{Found}
 use Rattle.search.specs.declared.Found.the-variants.{Walk, Nothing}
 use Rattle.search.specs.Plan as search
 use Rattle.planner.specs.declared.Outcome.{Outcome}
-use Rattle.planner.specs.Planning.{longest, tests, Planned, PlanningIn}
+use Rattle.rules.specs.Checking.{longest}
+use Rattle.planner.specs.Planning.{tests, Planned, PlanningIn}
 
 -- the tests' verdict, by what each of them says
 decided : Bool → Bool → Bool → Bool → Bool → Option Refusal

@@ -13,13 +13,10 @@ use Rattle.book.specs.Refusal.{Groups, refusalOf}
 use Rattle.book.specs.Book.{Book, graph}
 use Rattle.book.specs.Reading.{Reading, accepted, refused, reading}
 use Rattle.rules.specs.Area.{areaSize, spelled, valid}
+use Rattle.rules.specs.Checking.{longest}
 use Rattle.search.specs.Plan.{PlannedWalk}
 use Rattle.planner.specs.declared.Outcome.{Outcome}
 use Rattle.planner.specs.declared.Outcome.the-variants.{Walk, Nothing, Refused}
-
--- How long a walk may be (01: a plan has at most 1,600 grades), and the least size of its area.
-abbrev pub longest : ℕ
-longest = 1600
 
 -- The tests in a book that reads well: 8, 7, 9.
 abbrev pub tests : Book → List ℕ → ℕ → ℕ → ℕ → List ℕ → Groups

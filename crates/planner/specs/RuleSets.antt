@@ -21,7 +21,8 @@ use Rattle.rules.specs.Operations.{Binding, binding, areaAfter}
 use Rattle.rules.specs.Laws.{same-set, Filled, bind-accepted}
 use Rattle.planner.specs.declared.Outcome.{Outcome}
 use Rattle.planner.specs.declared.Outcome.the-variants.{Walk, Nothing, Refused}
-use Rattle.planner.specs.Planning.{longest, Planned, PlanningOf, Planning}
+use Rattle.rules.specs.Checking.{longest}
+use Rattle.planner.specs.Planning.{Planned, PlanningOf, Planning}
 
 -- The same count and arcs, and the same rule sets in another order.
 pub record Reordered (b c : Book) : Type 0 where

@@ -21,7 +21,8 @@ use Rattle.rules.specs.Operations.{Binding, binding, areaAfter}
 use Rattle.rules.specs.Laws.{bind-accepted}
 use Rattle.planner.specs.declared.Outcome.{Outcome}
 use Rattle.planner.specs.declared.Outcome.the-variants.{Walk, Nothing}
-use Rattle.planner.specs.Planning.{longest, Planned, Planning}
+use Rattle.rules.specs.Checking.{longest}
+use Rattle.planner.specs.Planning.{Planned, Planning}
 use Rattle.planner.specs.RuleSets.{refusal, decided, planned-known, planned-same}
 
 -- For every area that was bound for a batch and every area of 1,600 bytes or more for the walk, planning answers r, with w in the area's front.

@@ -13,10 +13,8 @@ ghost use Rattle.planner.specs.Planning.{Planning, PlanningIn};
 use book::Answer;
 use book::NO_ARC;
 use book::Refusal;
+use rules::LONGEST;
 use search::Found;
-
-// How many bytes the area of a walk has.
-pub const LONGEST: usize = 1600;
 
 pub enum Outcome {
     Walk { weight: u64, hops: usize },

@@ -43,7 +43,7 @@ checkFrom F w (suc k) e = answerAt e (namedAt F w e) (checkFrom F w k (suc e))
 abbrev pub occurrence : List (List ℕ) → List ℕ → Checked
 occurrence F w = checkFrom F w (length w) 1
 
--- The most vertices that a walk to be checked may have.
+-- How long a walk may be (01: a plan has at most 1,600 grades), and the least size of the line-up area.
 abbrev pub longest : ℕ
 longest = 1600
 

@@ -19,6 +19,9 @@ pub use walk::search;
 // How many bytes the runs area has.
 pub const AREA: usize = 2304;
 
+// How many vertices a walk may have, and the bytes of its area.
+pub const LONGEST: usize = 1600;
+
 pub enum Bound {
     Known(usize),
     Refused(Refusal),

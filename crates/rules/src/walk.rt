@@ -7,11 +7,9 @@ ghost use Rattle.book.specs.Tables.{weightTable};
 ghost use Rattle.rules.specs.Area.{blocks, spelled};
 ghost use Rattle.rules.specs.Checking.{occurrence, checkable};
 use crate::Checked;
+use crate::LONGEST;
 use book::NO_ARC;
 use lists::wide;
-
-// How many vertices a walk that is checked may have.
-const LONGEST: usize = 1600;
 
 // Whether what is to be checked is a walk, and not too long.
 pub fn is_walk(weights: &[u32; 4096], vertices: usize, walk: &[u8]) -> bool

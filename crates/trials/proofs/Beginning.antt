@@ -28,7 +28,8 @@ use denote.Enum.Declared.{tagOf}
 use Rattle.planner.specs.declared.Outcome.{Outcome}
 use Rattle.planner.proofs.Outcome.{the-type}
 use Rattle.planner.specs.declared.Outcome.the-variants.{Walk, Nothing, Refused}
-use Rattle.planner.specs.Planning.{longest, tests, Planned, PlanningOf, Planning}
+use Rattle.rules.specs.Checking.{longest}
+use Rattle.planner.specs.Planning.{tests, Planned, PlanningOf, Planning}
 use Rattle.trials.specs.declared.Begun.{Begun}
 use Rattle.trials.specs.Trials.{beginRefusal}
 use Rattle.trials.specs.declared.Record.{Record}

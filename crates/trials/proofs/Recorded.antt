@@ -14,7 +14,7 @@ use Rattle.book.specs.declared.Refusal.the-variants.{Area, Invalid, Ended}
 use Rattle.book.specs.Refusal.{refusalOf}
 use Rattle.book.specs.Book.{Book, graph}
 use Rattle.rules.specs.Area.{areaSize, valid}
-use Rattle.planner.specs.Planning.{longest}
+use Rattle.rules.specs.Checking.{longest}
 use Rattle.trials.specs.declared.Record.{Record}
 use Rattle.trials.specs.declared.judge.Judged.{Judged}
 use Rattle.trials.specs.declared.judge.Judged.the-variants.{Standing, Refused}

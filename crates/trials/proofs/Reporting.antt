@@ -26,7 +26,8 @@ use Rattle.rules.specs.Area.{areaSize, written, blocks, spelled, valid}
 use Rattle.rules.specs.AreaLaws.{length-blocks}
 use Rattle.rules.specs.ValidLaws.{written-length, written-valid, written-spells}
 use Rattle.planner.specs.declared.Outcome.{Outcome}
-use Rattle.planner.specs.Planning.{longest, tests, Planned, PlanningIn}
+use Rattle.rules.specs.Checking.{longest}
+use Rattle.planner.specs.Planning.{tests, Planned, PlanningIn}
 use Rattle.trials.specs.declared.Record.{Record}
 use Rattle.trials.specs.declared.Reported.{Reported}
 use Rattle.trials.specs.declared.judge.Judged.the-variants.{Standing, Refused}

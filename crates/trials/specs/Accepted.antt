@@ -14,7 +14,7 @@ use Rattle.book.specs.declared.Refusal.the-variants.{Endpoint, Area, Invalid, N
 use Rattle.book.specs.Refusal.{Groups, Test, refusalOf, firstFailure}
 use Rattle.book.specs.RefusalLaws.{all-hold}
 use Rattle.rules.specs.Area.{areaSize}
-use Rattle.planner.specs.Planning.{longest}
+use Rattle.rules.specs.Checking.{longest}
 use Rattle.trials.specs.Trials.{Report, State, pathArea, areasFit, isNamed, hasRoom, beginRefusal, refusal, Valid, isValid, Begin}
 use Rattle.trials.specs.Tests.{T→true, true→T, isValid→Valid, Valid→isValid}
 

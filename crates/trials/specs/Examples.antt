@@ -14,7 +14,7 @@ use Rattle.book.specs.Book.{simple, names}
 use Rattle.book.specs.Examples.{bookA}
 use Rattle.rules.specs.Binding.{covers, bound, once}
 use Rattle.rules.specs.Area.{areaSize}
-use Rattle.planner.specs.Planning.{longest}
+use Rattle.rules.specs.Checking.{longest}
 use Rattle.trials.specs.Trials.{passed, failed, State, Valid, Begin, EachAccepted, run, refusal, takes, isValid, isForbiddenSet, isRecord}
 use Rattle.trials.specs.Tests.{isForbiddenSet→, isValid→Valid}
 use Rattle.trials.specs.Accepted.{oracleTests, only-oracle}

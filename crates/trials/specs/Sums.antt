@@ -25,7 +25,8 @@ use Rattle.rules.specs.Area.{areaSize}
 use Rattle.rules.specs.Operations.{Binding, outcome, bindingOf, binding, areaAfter}
 use Rattle.planner.specs.declared.Outcome.{Outcome}
 use Rattle.planner.specs.declared.Outcome.the-variants.{Walk, Nothing}
-use Rattle.planner.specs.Planning.{longest, Planning}
+use Rattle.rules.specs.Checking.{longest}
+use Rattle.planner.specs.Planning.{Planning}
 use Rattle.planner.specs.Sums.{Gives, sums as planning}
 use Rattle.trials.specs.declared.Begun.{Begun}
 use Rattle.trials.specs.declared.Reported.{Reported}

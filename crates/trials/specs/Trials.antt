@@ -22,7 +22,7 @@ use Rattle.book.specs.Reading.{fits}
 use Rattle.automaton.specs.Chosen.{Decided}
 use Rattle.rules.specs.Binding.{once}
 use Rattle.rules.specs.Area.{mostPaths, areaSize, written}
-use Rattle.planner.specs.Planning.{longest}
+use Rattle.rules.specs.Checking.{longest}
 use Rattle.trials.specs.declared.Record.{Record}
 
 -- ---- the state of the trials

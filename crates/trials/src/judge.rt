@@ -10,15 +10,15 @@ ghost use Rattle.walks.specs.Feasible.{isFeasible};
 ghost use Rattle.walks.specs.Avoid.{occurs as Avoid·occurs};
 ghost use Rattle.book.specs.Book.{Book, graph};
 ghost use Rattle.rules.specs.Area.{areaSize, spelled, valid};
-ghost use Rattle.planner.specs.Planning.{longest};
+ghost use Rattle.rules.specs.Checking.{longest};
 ghost use Rattle.trials.specs.Trials.{takes, passedIn, isRecord};
 ghost use Rattle.trials.specs.Operations.{stateOf, barred};
 ghost use Rattle.trials.specs.Judging.{IsOf, judgedAs};
 use crate::Record;
 use book::Refusal;
-use planner::LONGEST;
 use rules::AREA;
 use rules::Checked;
+use rules::LONGEST;
 
 pub enum Judged {
     Standing,
