@@ -9,6 +9,11 @@ ghost use Rattle.automaton.specs.Progress.{Progress, Reached, Waiting};
 ghost use Rattle.automaton.specs.Rows.{Filled, Copied, Singles, Starts};
 use lists::wide;
 
+// How many states there are at most (a vertex each, and six for each path), and the steps from them: 64 a state.
+pub const STATES: usize = 1600;
+
+pub const STEPS: usize = 102400;
+
 fn index(x: u16) -> usize
     ensures { λ r. ⌜ r ≡ x ⌝ }
 {
@@ -16,7 +21,7 @@ fn index(x: u16) -> usize
 }
 
 // The steps of a single vertex, before any longer state is there.
-fn single_row(steps: &mut [u16; 102400], from: usize, vertices: usize)
+fn single_row(steps: &mut [u16; STEPS], from: usize, vertices: usize)
     requires { ⌜ length (now steps) ≡ 102400 ⌝ }
     requires { ⌜ vertices ≤ 64 ⌝ }
     requires { ⌜ from + vertices ≤ 102400 ⌝ }
@@ -31,9 +36,9 @@ fn single_row(steps: &mut [u16; 102400], from: usize, vertices: usize)
 
 fn singles(
     vertices: usize,
-    steps: &mut [u16; 102400],
-    blocked: &mut [u64; 1600],
-    latest: &mut [u8; 1600],
+    steps: &mut [u16; STEPS],
+    blocked: &mut [u64; STATES],
+    latest: &mut [u8; STATES],
 )
     requires { ⌜ vertices ≤ 64 ⌝ }
     requires { ⌜ length (now steps) ≡ 102400 ⌝ }
@@ -64,7 +69,7 @@ fn starts(area: &[u8], count: usize, current: &mut [u16; 256])
     }
 }
 
-fn copy_row(steps: &mut [u16; 102400], from: usize, to: usize, vertices: usize)
+fn copy_row(steps: &mut [u16; STEPS], from: usize, to: usize, vertices: usize)
     requires { ⌜ length (now steps) ≡ 102400 ⌝ }
     requires { ⌜ from + vertices ≤ to ⌝ }
     requires { ⌜ to + vertices ≤ 102400 ⌝ }
@@ -82,9 +87,9 @@ fn rows(
     vertices: usize,
     first: usize,
     states: usize,
-    steps: &mut [u16; 102400],
-    blocked: &mut [u64; 1600],
-    fail: &[u16; 1600],
+    steps: &mut [u16; STEPS],
+    blocked: &mut [u64; STATES],
+    fail: &[u16; STATES],
 )
     requires { ⌜ Waiting vertices first states (now steps) (now blocked) (now fail) ⌝ }
     ensures { λ _. ⌜ ((F : List (List ℕ)) (l i : ℕ) (latest current : List ℕ) → length F ≤ i → Progress F vertices l i first first states (now (steps .entry)) (now (blocked .entry)) latest (now (fail .entry)) current → Progress F vertices l i first states states (now (steps .exit)) (now (blocked .exit)) latest (now (fail .entry)) current) ⌝ }
@@ -105,10 +110,10 @@ fn extend(
     level: usize,
     first: usize,
     states: usize,
-    steps: &mut [u16; 102400],
-    blocked: &mut [u64; 1600],
-    latest: &mut [u8; 1600],
-    fail: &mut [u16; 1600],
+    steps: &mut [u16; STEPS],
+    blocked: &mut [u64; STATES],
+    latest: &mut [u8; STATES],
+    fail: &mut [u16; STATES],
     current: &mut [u16; 256],
 ) -> usize
     requires { ⌜ ((count : ℕ) × (i < count) × Reached (now area) count level i first first states (now steps) (now blocked) (now latest) (now fail) (now current)) ⌝ }
@@ -144,10 +149,10 @@ fn children(
     count: usize,
     level: usize,
     first: usize,
-    steps: &mut [u16; 102400],
-    blocked: &mut [u64; 1600],
-    latest: &mut [u8; 1600],
-    fail: &mut [u16; 1600],
+    steps: &mut [u16; STEPS],
+    blocked: &mut [u64; STATES],
+    latest: &mut [u8; STATES],
+    fail: &mut [u16; STATES],
     current: &mut [u16; 256],
 ) -> usize
     requires { ⌜ Reached (now area) count level 0 first first first (now steps) (now blocked) (now latest) (now fail) (now current) ⌝ }
@@ -178,9 +183,9 @@ pub fn build(
     area: &[u8],
     count: usize,
     vertices: usize,
-    steps: &mut [u16; 102400],
-    blocked: &mut [u64; 1600],
-    latest: &mut [u8; 1600],
+    steps: &mut [u16; STEPS],
+    blocked: &mut [u64; STATES],
+    latest: &mut [u8; STATES],
 ) -> usize
     requires { ⌜ Given (now area) count vertices ⌝ }
     requires { ⌜ length (now steps) ≡ 102400 ⌝ }
@@ -188,7 +193,7 @@ pub fn build(
     requires { ⌜ length (now latest) ≡ 1600 ⌝ }
     ensures { λ r. ⌜ ((F : List (List ℕ)) → Spells (now (area .entry)) count F → Bounded vertices F → Built F vertices r (now (steps .exit)) (now (blocked .exit)) (now (latest .exit))) ⌝ }
 {
-    let mut fail = [0u16; 1600];
+    let mut fail = [0u16; STATES];
     let mut current = [0u16; 256];
     singles(vertices, steps, blocked, latest);
     starts(area, count, &mut current);

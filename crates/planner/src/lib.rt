@@ -10,6 +10,8 @@ ghost use Rattle.book.specs.Tables.{weightTable};
 ghost use Rattle.search.specs.Plan.{Planned};
 ghost use Rattle.search.specs.Weights.{Weights};
 ghost use Rattle.planner.specs.Planning.{Planning, PlanningIn};
+use automaton::STATES;
+use automaton::STEPS;
 use book::Answer;
 use book::NO_ARC;
 use book::Refusal;
@@ -94,9 +96,9 @@ fn best_walk(
     requires { ⌜ (start < vertices) × (1600 ≤ length (now walk)) ⌝ }
     ensures { λ r. ⌜ ((g : Graph) (F : List (List ℕ)) → g .count ≡ vertices → Weights g (now (weights .entry)) → Spells (now (paths .entry)) count F → Bounded vertices F → Planned g F start end (now (walk .entry)) r (now (walk .exit))) ⌝ }
 {
-    let mut steps = [0u16; 102400];
-    let mut blocked = [0u64; 1600];
-    let mut latest = [0u8; 1600];
+    let mut steps = [0u16; STEPS];
+    let mut blocked = [0u64; STATES];
+    let mut latest = [0u8; STATES];
     let states = automaton::build(
         paths,
         count,

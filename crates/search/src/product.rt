@@ -16,20 +16,18 @@ ghost use Rattle.search.specs.Columns.{Columns};
 ghost use Rattle.search.specs.Targets.{targets};
 ghost use Rattle.search.specs.Fits.{Row, Fits};
 ghost use Rattle.search.specs.Scratch.{Scratch, Room};
+use automaton::STATES;
+use automaton::STEPS;
 use book::NO_ARC;
 use distances::INF;
 use distances::link;
 use distances::settle;
 
-// How many states an automaton has at most, and the edges from them; and how many it has for a usual book. Work tables are
-// cleared before use, and to clear the large ones would take longer than a usual search.
-const STATES: usize = 1600;
-
-const EDGES: usize = 102400;
-
+// How many states and steps there are for a usual book at most. Work tables are cleared before use, and to clear those for all
+// states would take longer than a usual search.
 const USUAL_STATES: usize = 160;
 
-const USUAL_EDGES: usize = 10240;
+const USUAL_STEPS: usize = 10240;
 
 // Whether there is an arc of that weight, and the lowest bit of the marks blocks nothing.
 pub fn is_open(weight: u32, marks: u64) -> bool
@@ -200,11 +198,11 @@ fn all_distances(
     requires { ⌜ length (now table) ≤ 1600 ⌝ }
     ensures { λ _. ⌜ now (table .exit) ≡ passes (stateEdges (now (weights .entry)) (now (steps .entry)) (now (blocked .entry)) (now (latest .entry)) n (length (now (table .entry)))) (length (now (table .entry))) (targets (now (latest .entry)) end (length (now (table .entry)))) ⌝ }
 {
-    let mut tails = [0u16; EDGES];
-    let mut heads = [0u16; EDGES];
-    let mut costs = [0u32; EDGES];
+    let mut tails = [0u16; STEPS];
+    let mut heads = [0u16; STEPS];
+    let mut costs = [0u32; STEPS];
     let mut first = [0u32; STATES];
-    let mut next = [0u32; EDGES];
+    let mut next = [0u32; STEPS];
     let mut seen = [INF; STATES];
     distances_to(
         n,
@@ -237,11 +235,11 @@ fn usual_distances(
     requires { ⌜ length (now table) ≤ 160 ⌝ }
     ensures { λ _. ⌜ now (table .exit) ≡ passes (stateEdges (now (weights .entry)) (now (steps .entry)) (now (blocked .entry)) (now (latest .entry)) n (length (now (table .entry)))) (length (now (table .entry))) (targets (now (latest .entry)) end (length (now (table .entry)))) ⌝ }
 {
-    let mut tails = [0u16; USUAL_EDGES];
-    let mut heads = [0u16; USUAL_EDGES];
-    let mut costs = [0u32; USUAL_EDGES];
+    let mut tails = [0u16; USUAL_STEPS];
+    let mut heads = [0u16; USUAL_STEPS];
+    let mut costs = [0u32; USUAL_STEPS];
     let mut first = [0u32; USUAL_STATES];
-    let mut next = [0u32; USUAL_EDGES];
+    let mut next = [0u32; USUAL_STEPS];
     let mut seen = [INF; USUAL_STATES];
     distances_to(
         n,

@@ -12,6 +12,7 @@ ghost use Rattle.search.specs.Plan.{Planned, Prepared};
 use crate::Found;
 use crate::product::distances;
 use crate::product::is_open;
+use automaton::STATES;
 use distances::INF;
 
 // The usable vertices below n at state q as a word: those over which the entry falls by the arc and one hop.
@@ -138,7 +139,7 @@ pub fn best_walk(
     requires { ⌜ (start < n) × (1600 ≤ length (now area)) ⌝ }
     ensures { λ r. ⌜ ((g : Graph) (F : List (List ℕ)) → Prepared g F n m (now (weights .entry)) (now (steps .entry)) (now (blocked .entry)) (now (latest .entry)) → Avoids F (start ∷ []) → Planned g F start end (now (area .entry)) r (now (area .exit))) ⌝ }
 {
-    let mut table = [0u64; 1600];
+    let mut table = [0u64; STATES];
     plan_in(
         n,
         start,
