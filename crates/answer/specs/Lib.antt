@@ -3,6 +3,5 @@ pub mod Writing
 pub mod Answer
 pub mod TextLaws
 pub mod AnswerLaws
-pub mod BookSize
 pub mod LongInput
 pub mod Examples

@@ -7,3 +7,5 @@ pub mod BookLaws
 pub mod TableLaws
 pub mod EntryLaws
 pub mod Examples
+pub mod BookSize
+pub mod LongBook

@@ -4,7 +4,6 @@ pub mod Edge
 pub mod Table
 pub mod Pass
 pub mod Settled
-pub mod Pigeonhole
 pub mod Shorten
 pub mod Bellman
 pub mod Certificate

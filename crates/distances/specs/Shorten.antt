@@ -7,7 +7,7 @@ use lib.ListN.{length, length-map}
 use Rattle.distances.specs.Edge.{Edge, Path, total, cost, Within}
 use native.Mathlib.Decide.{ℕ-discrete}
 use Rattle.lists.specs.Distinct.{Distinct, mem?}
-use Rattle.distances.specs.Pigeonhole.{pigeonhole}
+use Rattle.lists.specs.Pigeonhole.{pigeonhole}
 use Rattle.distances.specs.Table.{at, Least, LeastWithin, passes}
 use Rattle.distances.specs.Pass.{passes-least}
 

@@ -1,2 +1,3 @@
 pub mod Distinct
 pub mod Test
+pub mod Pigeonhole
