@@ -7,8 +7,8 @@ use cases::wide;
 use rules::AREA;
 use rules::LONGEST;
 use series::Made;
+use trial_record::Record;
 use trials::Begun;
-use trials::Record;
 use trials::Reported;
 
 // Replays one case, and prints what begin and each report leave.

@@ -32,9 +32,9 @@ use Rattle.rules.specs.Checking.{longest}
 use Rattle.planner.specs.Planning.{tests, Planned, PlanningOf, Planning}
 use Rattle.trials.specs.declared.Begun.{Begun}
 use Rattle.trials.specs.Trials.{beginRefusal}
-use Rattle.trials.specs.declared.Record.{Record}
+use Rattle.trial_record.specs.declared.Record.{Record}
 use Rattle.trials.specs.Accepted.{begin-accepted}
-use Rattle.trials.specs.Steps.{fresh, replanned, Counted}
+use Rattle.trial_record.specs.Steps.{fresh, replanned, Counted}
 use Rattle.trials.specs.Operations.{Left, left, begunAs, firstState, beginningOf, beginning}
 use Rattle.trials.specs.Replanning.{held, chosen-planner, known-set, trialsOf, withAnswer}
 

@@ -15,7 +15,7 @@ use Rattle.book.specs.Refusal.{refusalOf}
 use Rattle.book.specs.Book.{Book, graph}
 use Rattle.rules.specs.Area.{areaSize, valid}
 use Rattle.rules.specs.Checking.{longest}
-use Rattle.trials.specs.declared.Record.{Record}
+use Rattle.trial_record.specs.declared.Record.{Record}
 use Rattle.trials.specs.declared.judge.Judged.{Judged}
 use Rattle.trials.specs.declared.judge.Judged.the-variants.{Standing, Refused}
 use Rattle.trials.specs.Trials.{State, standing, passedIn, isRecord}

@@ -28,11 +28,11 @@ use Rattle.rules.specs.ValidLaws.{written-length, written-valid, written-spells
 use Rattle.planner.specs.declared.Outcome.{Outcome}
 use Rattle.rules.specs.Checking.{longest}
 use Rattle.planner.specs.Planning.{tests, Planned, PlanningIn}
-use Rattle.trials.specs.declared.Record.{Record}
+use Rattle.trial_record.specs.declared.Record.{Record}
 use Rattle.trials.specs.declared.Reported.{Reported}
 use Rattle.trials.specs.declared.judge.Judged.the-variants.{Standing, Refused}
 use Rattle.trials.specs.Trials.{Report, passed, failed, State, ForbiddenSet, areasFit, takes, standing, isNamed, hasRoom, isRecord, passedIn, stageOf, litresOf, lengthOf, step}
-use Rattle.trials.specs.Steps.{passedOf, failedOf, replanned, Counted}
+use Rattle.trial_record.specs.Steps.{passedOf, failedOf, replanned, Counted}
 use Rattle.trials.specs.Operations.{left, stateOf, barred, reportRefusal, reportedAs, reportingOf}
 use Rattle.trials.specs.OperationLaws.{asked, refused-before, all-asked, set-paths, set-once, Passed, passed-tests}
 use Rattle.trials.specs.Judging.{judgedAs}

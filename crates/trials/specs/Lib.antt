@@ -1,7 +1,6 @@
 pub mod Trials
 pub mod Reports
 pub mod ReportsLaws
-pub mod Steps
 pub mod Operations
 pub mod Replanning
 pub mod Judging

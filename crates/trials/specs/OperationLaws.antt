@@ -21,7 +21,7 @@ use Rattle.rules.specs.AreaLaws.{length-blocks}
 use Rattle.rules.specs.ValidLaws.{valid→Valid, written-length, written-valid, written-spells}
 use Rattle.automaton.specs.Chosen.{chosen}
 use Rattle.rules.specs.Checking.{longest}
-use Rattle.trials.specs.declared.Record.{Record}
+use Rattle.trial_record.specs.declared.Record.{Record}
 use Rattle.trials.specs.Trials.{Report, State, pathArea, areasFit, isNamed, hasRoom, ForbiddenSet, isForbiddenSet, isRecord, isValid, Valid, refusal, step}
 use Rattle.trials.specs.Operations.{stateOf, reportRefusal, reportedAs, reportingOf}
 use Rattle.trials.specs.Tests.{T→true, true→T, takes→IsPath, forbidden-set, once→Distinct, Distinct→once, →isForbiddenSet, Valid→isValid, isValid→Valid}

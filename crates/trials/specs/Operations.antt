@@ -11,7 +11,7 @@ use Rattle.book.specs.Book.{Book, graph}
 use Rattle.book.specs.Reading.{Reading, accepted, refused, reading}
 use Rattle.rules.specs.Binding.{known}
 use Rattle.rules.specs.Area.{areaSize, spelled, valid}
-use Rattle.trials.specs.declared.Record.{Record}
+use Rattle.trial_record.specs.declared.Record.{Record}
 use Rattle.trials.specs.declared.Begun.{Begun}
 use Rattle.trials.specs.declared.Reported.{Reported}
 use Rattle.automaton.specs.Chosen.{chosen}

@@ -15,9 +15,9 @@ use Rattle.planner.specs.declared.Outcome.{Outcome}
 use Rattle.planner.specs.declared.Outcome.the-variants.{Walk, Nothing, Refused}
 use Rattle.rules.specs.Checking.{longest}
 use Rattle.planner.specs.Planning.{Planned}
-use Rattle.trials.specs.declared.Record.{Record}
+use Rattle.trial_record.specs.declared.Record.{Record}
 use Rattle.trials.specs.Trials.{ForbiddenSet, Plan, Planner, Begin, beginRefusal, stageOf, litresOf, lengthOf, overlaid}
-use Rattle.trials.specs.Steps.{withPlan, replanned, Counted}
+use Rattle.trial_record.specs.Steps.{withPlan, replanned, Counted}
 use Rattle.trials.specs.Tests.{takes→IsPath, true→T, once→Distinct, forbidden-set}
 use Rattle.trials.specs.Plans.{plan-best, plan-none}
 

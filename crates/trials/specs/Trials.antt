@@ -23,7 +23,7 @@ use Rattle.automaton.specs.Chosen.{Decided}
 use Rattle.rules.specs.Binding.{once}
 use Rattle.rules.specs.Area.{mostPaths, areaSize, written}
 use Rattle.rules.specs.Checking.{longest}
-use Rattle.trials.specs.declared.Record.{Record}
+use Rattle.trial_record.specs.declared.Record.{Record}
 
 -- ---- the state of the trials
 -- A report of the oracle (01: of the lab): the standing walk passes, or fails and a forbidden path is named.

@@ -8,7 +8,7 @@ use Rattle.book.specs.declared.Refusal.{Refusal}
 use Rattle.book.specs.Book.{Book, graph}
 use Rattle.book.specs.BookLaws.{reading-is-book}
 use Rattle.book.specs.Reading.{accepted, reading}
-use Rattle.trials.specs.declared.Record.{Record}
+use Rattle.trial_record.specs.declared.Record.{Record}
 use Rattle.trials.specs.declared.Begun.{Begun}
 use Rattle.trials.specs.declared.Reported.{Reported}
 use Rattle.trials.specs.Trials.{Report, State, pathArea, beginRefusal, refusal, Valid, unless, step, after, run, Begin, begun, stateAfter, acceptedOf}

@@ -14,11 +14,11 @@ ghost use Rattle.rules.specs.Checking.{longest};
 ghost use Rattle.trials.specs.Trials.{takes, passedIn, isRecord};
 ghost use Rattle.trials.specs.Operations.{stateOf, barred};
 ghost use Rattle.trials.specs.Judging.{IsOf, judgedAs};
-use crate::Record;
 use book::Refusal;
 use rules::AREA;
 use rules::Checked;
 use rules::LONGEST;
+use trial_record::Record;
 
 pub enum Judged {
     Standing,

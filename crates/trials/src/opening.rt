@@ -4,11 +4,11 @@ ghost use lib.ListN.{length};
 ghost use Rattle.rules.specs.Area.{areaSize};
 ghost use Rattle.trials.specs.Operations.{left, beginning};
 use crate::Begun;
-use crate::Record;
 use book::Refusal;
 use planner::Outcome;
 use rules::AREA;
 use rules::Bound;
+use trial_record::Record;
 
 // Binds the rule sets that apply to a batch with these flags, and plans from start to end: the forbidden paths that are known then
 // go to the front of `paths`, the walk to the front of `walk`.

@@ -10,7 +10,6 @@ ghost use Rattle.trials.specs.declared.Reported.the-variants.{Accepted};
 ghost use Rattle.trials.specs.Trials.{passed, failed};
 ghost use Rattle.trials.specs.Operations.{left, reportRefusal, reportingOf, reporting};
 ghost use Rattle.trials.specs.Judging.{IsOf};
-use crate::Record;
 use crate::Reported;
 use crate::judge::Judged;
 use crate::judge::is_named;
@@ -18,6 +17,7 @@ use crate::judge::judge;
 use book::Answer;
 use book::NO_ARC;
 use book::Refusal;
+use trial_record::Record;
 
 // How many forbidden paths can be known.
 const MOST: usize = 256;

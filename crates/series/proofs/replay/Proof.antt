@@ -6,7 +6,7 @@ use mathlib.Core.List.{List}
 use mathlib.Core.Path.{_≡_, refl, sym, subst}
 use lib.ListN.{length, drop}
 use Prim.Native.Nat.{ℕ, _+_, _-_}
-use Rattle.trials.specs.declared.Record.{Record}
+use Rattle.trial_record.specs.declared.Record.{Record}
 use Rattle.trials.specs.Operations.{left, recordIn}
 use Rattle.trials.specs.Reports.{sizeOf}
 use Rattle.trials.specs.ReportsLaws.{size-positive}

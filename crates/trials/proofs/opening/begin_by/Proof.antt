@@ -8,9 +8,9 @@ use lib.ListN.{drop}
 use Rattle.rules.specs.Area.{areaSize}
 use Rattle.rules.specs.Operations.{binding, areaAfter}
 use Rattle.planner.specs.Planning.{Planning}
-use Rattle.trials.specs.declared.Record.{Record}
+use Rattle.trial_record.specs.declared.Record.{Record}
 use Rattle.trials.specs.declared.Begun.{Begun}
-use Rattle.trials.specs.Steps.{fresh, replanned, Counted}
+use Rattle.trial_record.specs.Steps.{fresh, replanned, Counted}
 use Rattle.trials.specs.Operations.{left, beginning}
 use Rattle.trials.proofs.Beginning.{Opened, unbound, opened, small-paths, not-refused, unplanned, begun}
 use Rattle.trials.proofs.opening.begin_by.Statement.{statement}

@@ -9,10 +9,10 @@ use Prim.Native.Nat.{_+_}
 use Rattle.book.specs.Book.{Book}
 use Rattle.rules.specs.Area.{areaSize, written, spelled}
 use Rattle.planner.specs.Planning.{PlanningIn}
-use Rattle.trials.specs.declared.Record.{Record}
+use Rattle.trial_record.specs.declared.Record.{Record}
 use Rattle.trials.specs.declared.Reported.{Reported}
 use Rattle.trials.specs.Trials.{failed}
-use Rattle.trials.specs.Steps.{replanned}
+use Rattle.trial_record.specs.Steps.{replanned}
 use Rattle.trials.specs.Operations.{left, reportRefusal}
 use Rattle.trials.specs.Judging.{IsOf}
 use Rattle.trials.proofs.Reporting.{few-known, failed-few, path-short, entry-fits, entered, counted, has-failed}

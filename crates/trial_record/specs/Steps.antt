@@ -4,7 +4,7 @@ use mathlib.Core.Path.{_≡_, subst}
 use Rattle.planner.specs.declared.Outcome.{Outcome}
 use Rattle.planner.specs.declared.Outcome.the-variants.{Walk, Nothing, Refused}
 use Rattle.rules.specs.Checking.{longest}
-use Rattle.trials.specs.declared.Record.{Record}
+use Rattle.trial_record.specs.declared.Record.{Record}
 
 -- Trials begin with that many forbidden paths known; there is no plan yet.
 abbrev pub fresh : ℕ → ℕ → ℕ → Record

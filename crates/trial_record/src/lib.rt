@@ -1,10 +1,25 @@
-// The steps of the record: each takes it by value and hands the next one back.
+// The record of the trials, and its steps: each takes the record by value and hands the next one back.
 ghost use mathlib.Core.Path.{_≡_};
 ghost use Prim.Native.Nat.{_≤_, _<_};
-ghost use Rattle.trials.specs.Steps.{fresh, withPlan, Counted, passedOf, failedOf};
-ghost use Rattle.trials.specs.Steps.{replanned as Steps·replanned};
-use crate::Record;
+ghost use Rattle.trial_record.specs.Steps.{fresh, withPlan, Counted, passedOf, failedOf};
+ghost use Rattle.trial_record.specs.Steps.{replanned as Steps·replanned};
 use planner::Outcome;
+
+// The record of 01. The stage is 0 while a walk (01: line-up) stands, 1 once it has passed, 2 where there is none.
+pub struct Record {
+    pub stage: usize,
+    pub start: u8,
+    pub end: u8,
+    // how many forbidden paths (01: runs) are known, and how many were at the start
+    pub known: usize,
+    pub first: usize,
+    // the accepted reports of each kind
+    pub failed: usize,
+    pub passed: usize,
+    // the standing walk's weight and its number of vertices
+    pub litres: u64,
+    pub length: usize,
+}
 
 impl Record {
     // The record of trials that begin with that many forbidden paths known, before there is a plan.

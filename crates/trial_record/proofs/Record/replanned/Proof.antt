@@ -1,9 +1,9 @@
--- `trials::Record::replanned` meets its contract.
+-- `trial_record::Record::replanned` meets its contract.
 use borrow.Author.Needs.{needs}
 use mathlib.Core.Path.{sym, ap, _∙_}
-use Rattle.trials.specs.Steps.{replanned, counted-walk}
-use Rattle.trials.proofs.Record.replanned.Statement.{statement}
-use Rattle.trials.proofs.Record.replanned.Tie as tie
+use Rattle.trial_record.specs.Steps.{replanned, counted-walk}
+use Rattle.trial_record.proofs.Record.replanned.Statement.{statement}
+use Rattle.trial_record.proofs.Record.replanned.Tie as tie
 
 enum-known-outcome : tie.Need-enum-known-outcome
 enum-known-outcome c = search needs
