@@ -18,14 +18,13 @@ use Rattle.book.specs.Refusal.{refusalOf}
 use Rattle.book.specs.Book.{Book, graph}
 use Rattle.book.specs.Reading.{Reading, accepted, refused, reading}
 use Rattle.rules.specs.declared.Bound.{Bound}
-use Rattle.rules.specs.Area.{areaSize}
+use Rattle.limits.specs.Limits.{areaSize, longest}
 use Rattle.rules.specs.Binding.{known}
 use Rattle.rules.specs.Operations.{Binding, outcome, bindingOf, binding, answer, areaAfter}
 use Rattle.rules.specs.Laws.{bind-accepted}
 use Rattle.search.specs.Plan.{PlannedWalk}
 use Rattle.planner.specs.declared.Outcome.{Outcome}
 use Rattle.planner.specs.declared.Outcome.the-variants.{Walk, Nothing, Refused}
-use Rattle.rules.specs.Checking.{longest}
 use Rattle.planner.specs.Planning.{Planned, Planning}
 use Rattle.planner.specs.RuleSets.{planned-known}
 use Rattle.answer.specs.Text.{planText, walkText, refusalText, outcomeText}

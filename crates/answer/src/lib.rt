@@ -10,10 +10,10 @@ ghost use Rattle.answer.specs.Writing.{Wrote, WroteSome, Standing};
 mod text;
 
 use book::Refusal;
+use limits::AREA;
+use limits::LONGEST;
 use planner::Outcome;
-use rules::AREA;
 use rules::Bound;
-use rules::LONGEST;
 use text::plan_text;
 use text::refusal_text;
 use text::word;

@@ -14,7 +14,8 @@ use Rattle.book.specs.Book.{Book, IsArc, WellFormed, counts, given, prop
 use Rattle.book.specs.BookLaws.{is-arc}
 use Rattle.book.specs.Reading.{Reading, answer, arcAt, taken, kept, proper, fresh}
 use Rattle.book.specs.TableLaws.{marked→free, unmarked→given}
-use Rattle.book.specs.Tables.{noArc, weightTable}
+use Rattle.book.specs.Tables.{weightTable}
+use Rattle.limits.specs.Limits.{noArc}
 use Rattle.book.proofs.Added.{entered-arc, counts-arc}
 use Rattle.book.proofs.Taken.{taken-value, taken-repeated, taken-whole}
 

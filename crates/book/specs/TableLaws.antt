@@ -13,7 +13,8 @@ use Rattle.walks.specs.Graph.{Arc, isSome, weightIn}
 use Rattle.lists.specs.Test.{and-true}
 use Rattle.book.specs.Book.{Book, All, IsArc, PairsOnce, WellFormed, given}
 use Rattle.book.specs.BookLaws.{all-map}
-use Rattle.book.specs.Tables.{noArc, entered, weightTable}
+use Rattle.book.specs.Tables.{entered, weightTable}
+use Rattle.limits.specs.Limits.{noArc}
 
 -- What holds of each arc holds of the arc that a pair's weight comes from.
 pub record Found (P : Arc → Type 0) (u v x : ℕ) : Type 0 where

@@ -3,12 +3,9 @@ use Prim.Native.Nat.{ℕ, suc, _+_, _-_, _*_}
 use mathlib.Core.Path.{_≡_}
 use mathlib.Core.List.{List, [], _∷_, _++_, map}
 use lib.ListN.{length, set, replicate}
+use Rattle.limits.specs.Limits.{noArc}
 use Rattle.walks.specs.Graph.{Arc}
 use Rattle.book.specs.Book.{RuleSet, Book, allPaths}
-
--- the mark of a pair that is no arc
-abbrev pub noArc : ℕ
-noArc = 0xffff_ffff
 
 -- a list with zeros up to n elements
 abbrev pub padded : ℕ → List ℕ → List ℕ

@@ -12,8 +12,12 @@ ghost use Rattle.book.specs.declared.Kind.the-variants.{VertexCount, Arc
 use crate::Answer;
 use crate::Counts;
 use crate::Kind;
-use crate::NO_ARC;
 use crate::Refusal;
+use limits::AREA;
+use limits::MOST_PATHS;
+use limits::MOST_SETS;
+use limits::NO_ARC;
+use limits::PAIRS;
 use lists::wide;
 
 fn kind_of(tag: u8) -> Kind
@@ -132,7 +136,7 @@ pub fn proper_arc(vertices: usize, tail: usize, head: usize, weight: usize) -> b
     weight <= 1_000_000
 }
 
-fn arc(bytes: &[u8], at: usize, counts: Counts, weights: &mut [u32; 4096]) -> Answer
+fn arc(bytes: &[u8], at: usize, counts: Counts, weights: &mut [u32; PAIRS]) -> Answer
     requires { ⌜ at + 9 ≤ length (now bytes) ⌝ }
     requires { ⌜ counts .vertices ≤ 64 ⌝ }
     requires { ⌜ counts .arcs ≤ at ⌝ }
@@ -157,7 +161,7 @@ fn arc(bytes: &[u8], at: usize, counts: Counts, weights: &mut [u32; 4096]) -> An
     })
 }
 
-fn rule_set(bytes: &[u8], at: usize, counts: Counts, flags: &mut [u16; 16]) -> Answer
+fn rule_set(bytes: &[u8], at: usize, counts: Counts, flags: &mut [u16; MOST_SETS]) -> Answer
     requires { ⌜ at + 5 ≤ length (now bytes) ⌝ }
     ensures { λ r. ⌜ ((b : Book) → counts ≡ Book·counts b → now (flags .entry) ≡ flagTable (b .sets) → (r ≡ answer (taken RuleSet (now (bytes .entry)) b at)) × (now (flags .exit) ≡ flagTable (kept b (taken RuleSet (now (bytes .entry)) b at) .sets))) ⌝ }
 {
@@ -208,7 +212,7 @@ pub fn simple(bytes: &[u8], from: usize, to: usize, vertices: usize) -> bool
     true
 }
 
-fn copy(src: &[u8], from: usize, dst: &mut [u8; 2304], to: usize, n: usize)
+fn copy(src: &[u8], from: usize, dst: &mut [u8; AREA], to: usize, n: usize)
     requires { ⌜ from + n ≤ length (now src) ⌝ }
     requires { ⌜ to + n ≤ 2304 ⌝ }
     ensures { λ _. ⌜ (to + n ≤ length (now (dst .entry)) → now (dst .exit) ≡ paste (now (dst .entry)) to (slice from (from + n) (now (src .entry))) n) ⌝ }
@@ -224,8 +228,8 @@ fn path(
     bytes: &[u8],
     at: usize,
     counts: Counts,
-    owners: &mut [u8; 256],
-    entries: &mut [u8; 2304],
+    owners: &mut [u8; MOST_PATHS],
+    entries: &mut [u8; AREA],
 ) -> Answer
     requires { ⌜ endAt (now bytes) at ≤ length (now bytes) ⌝ }
     requires { ⌜ lengthAt (now bytes) at ≤ 8 ⌝ }
@@ -257,10 +261,10 @@ pub fn field(
     bytes: &[u8],
     at: usize,
     counts: Counts,
-    weights: &mut [u32; 4096],
-    flags: &mut [u16; 16],
-    owners: &mut [u8; 256],
-    entries: &mut [u8; 2304],
+    weights: &mut [u32; PAIRS],
+    flags: &mut [u16; MOST_SETS],
+    owners: &mut [u8; MOST_PATHS],
+    entries: &mut [u8; AREA],
 ) -> Answer
     requires { ⌜ at < length (now bytes) ⌝ }
     requires { ⌜ counts .vertices ≤ 64 ⌝ }

@@ -12,6 +12,11 @@ use field::field;
 use field::field_end;
 pub use field::proper_arc;
 pub use field::simple;
+use limits::AREA;
+use limits::MOST_PATHS;
+use limits::MOST_SETS;
+use limits::NO_ARC;
+use limits::PAIRS;
 
 // The refusals of 01, 1 to 13 in its order. A book's refusal holds the byte at which the field starts.
 pub enum Refusal {
@@ -99,27 +104,24 @@ pub enum Kind {
     Unknown,
 }
 
-// A pair of vertices that is no arc, in a table of weights.
-pub const NO_ARC: u32 = 0xffff_ffff;
-
 // Reads a book: its counts, or its refusal.
 pub fn read(bytes: &[u8]) -> Answer
     ensures { λ r. ⌜ r ≡ answer (reading (now (bytes .entry))) ⌝ }
 {
-    let mut weights = [NO_ARC; 4096];
-    let mut flags = [0u16; 16];
-    let mut owners = [0u8; 256];
-    let mut entries = [0u8; 2304];
+    let mut weights = [NO_ARC; PAIRS];
+    let mut flags = [0u16; MOST_SETS];
+    let mut owners = [0u8; MOST_PATHS];
+    let mut entries = [0u8; AREA];
     load(bytes, &mut weights, &mut flags, &mut owners, &mut entries)
 }
 
 // Reads a book into blank tables.
 pub fn load(
     bytes: &[u8],
-    weights: &mut [u32; 4096],
-    flags: &mut [u16; 16],
-    owners: &mut [u8; 256],
-    entries: &mut [u8; 2304],
+    weights: &mut [u32; PAIRS],
+    flags: &mut [u16; MOST_SETS],
+    owners: &mut [u8; MOST_PATHS],
+    entries: &mut [u8; AREA],
 ) -> Answer
     requires { ⌜ Blank (now weights) (now flags) (now owners) (now entries) ⌝ }
     ensures { λ r. ⌜ r ≡ answer (reading (now (bytes .entry))) ⌝ }

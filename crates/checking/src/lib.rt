@@ -5,7 +5,7 @@ use cases::number;
 use cases::text;
 use cases::wide;
 use cases::word;
-use rules::AREA;
+use limits::AREA;
 use rules::Bound;
 use rules::Checked;
 

@@ -6,7 +6,7 @@ use denote.Ref.{now}
 use lib.ListN.{replicate}
 use borrow.Fn.Kinds.{PK, RK, In, Out, pNum, pMut}
 use borrow.Kind.ShrSlice.{pShrS}
-use Rattle.book.specs.Tables.{noArc}
+use Rattle.limits.specs.Limits.{noArc}
 use Rattle.listed.specs.Listing.{listing}
 use Rattle.listed.specs.Standing.{Stands}
 use Rattle.listed.proofs.Values.{Item, Table, rVerdict}

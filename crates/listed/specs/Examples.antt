@@ -9,7 +9,7 @@ use Rattle.book.specs.Reading.{accepted, refused}
 use Rattle.rules.specs.Operations.{Binding, binding, areaAfter}
 use Rattle.planner.specs.declared.Outcome.{Outcome}
 use Rattle.planner.specs.declared.Outcome.the-variants.{Walk}
-use Rattle.rules.specs.Checking.{longest}
+use Rattle.limits.specs.Limits.{longest}
 use Rattle.planner.specs.Planning.{PlanningOf}
 use Rattle.planner.specs.Sums.{sums}
 use Rattle.listed.specs.declared.Arc.{Arc}

@@ -18,7 +18,8 @@ use Rattle.book.specs.Book.{Book, IsArc, WellFormed, allPaths, given, properArc
 use Rattle.book.specs.BookLaws.{is-arc, arc-well-formed}
 use Rattle.book.specs.Reading.{Reading, accepted, refused, andThen, outcome}
 use Rattle.book.specs.TableLaws.{marked→free, unmarked→given}
-use Rattle.book.specs.Tables.{noArc, entered, weightTable}
+use Rattle.book.specs.Tables.{entered, weightTable}
+use Rattle.limits.specs.Limits.{noArc}
 use Rattle.planner.specs.declared.Outcome.{Outcome}
 use Rattle.planner.specs.Planning.{PlanningIn, PlanningOf}
 use Rattle.listed.specs.declared.Arc.{Arc as Item}

@@ -3,12 +3,13 @@ ghost use mathlib.Core.Path.{_≡_};
 ghost use lib.ListN.{replicate};
 ghost use Rattle.book.specs.Book.{Book};
 ghost use Rattle.book.specs.Reading.{Reading};
-ghost use Rattle.book.specs.Tables.{noArc};
+ghost use Rattle.limits.specs.Limits.{noArc};
 ghost use Rattle.planner.specs.Planning.{PlanningOf};
 ghost use Rattle.listed.specs.Listing.{arcOf, counted as Listing·counted, judged, listing};
 ghost use Rattle.listed.specs.Standing.{Holds, Stands, goesOn, verdictOf};
-use book::NO_ARC;
 use book::Refusal;
+use limits::NO_ARC;
+use limits::PAIRS;
 use lists::wide;
 use planner::Outcome;
 
@@ -39,7 +40,7 @@ fn counted(vertices: usize) -> Verdict
 }
 
 // Judges the item at index i after a book, and enters it into the table of weights.
-fn enter(vertices: usize, i: usize, arc: Arc, weights: &mut [u32; 4096]) -> Verdict
+fn enter(vertices: usize, i: usize, arc: Arc, weights: &mut [u32; PAIRS]) -> Verdict
     requires { ⌜ ((b : Book) × Holds vertices b (now weights)) ⌝ }
     ensures { λ r. ⌜ ((b : Book) → Holds vertices b (now (weights .entry)) → Stands vertices (judged b i (arcOf arc)) r (now (weights .exit))) ⌝ }
 {
@@ -68,7 +69,7 @@ fn more(verdict: Verdict, i: usize, n: usize) -> bool
 }
 
 // Copies the items out one by one, and enters each into a blank table, up to the first bad one.
-fn load(vertices: usize, arcs: &[Arc], weights: &mut [u32; 4096]) -> Verdict
+fn load(vertices: usize, arcs: &[Arc], weights: &mut [u32; PAIRS]) -> Verdict
     requires { ⌜ now weights ≡ replicate 4096 noArc ⌝ }
     ensures { λ r. ⌜ Stands vertices (listing vertices (now (arcs .entry))) r (now (weights .exit)) ⌝ }
 {
@@ -85,7 +86,7 @@ fn load(vertices: usize, arcs: &[Arc], weights: &mut [u32; 4096]) -> Verdict
 fn plan_loaded(
     verdict: Verdict,
     vertices: usize,
-    weights: &[u32; 4096],
+    weights: &[u32; PAIRS],
     paths: &[u8],
     count: usize,
     start: u8,
@@ -114,7 +115,7 @@ pub fn plan_arcs(
 ) -> Outcome
     ensures { λ r. ⌜ PlanningOf (listing vertices (now (arcs .entry))) (now (paths .entry)) count start end (now (walk .entry)) r (now (walk .exit)) ⌝ }
 {
-    let mut weights = [NO_ARC; 4096];
+    let mut weights = [NO_ARC; PAIRS];
     let verdict = load(vertices, arcs, &mut weights);
     plan_loaded(verdict, vertices, &weights, paths, count, start, end, walk)
 }

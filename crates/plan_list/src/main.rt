@@ -5,10 +5,10 @@ ghost use Rattle.listed.specs.Listing.{listing};
 use cases::number;
 use cases::text;
 use cases::write_walk;
+use limits::AREA;
+use limits::LONGEST;
 use listed::Arc;
 use planner::Outcome;
-use rules::AREA;
-use rules::LONGEST;
 
 fn arc(tail: u8, head: u8, weight: u32) -> Arc {
     Arc { tail, head, weight }

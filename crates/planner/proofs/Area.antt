@@ -9,7 +9,8 @@ use Rattle.book.specs.Book.{All, IsPath}
 use Rattle.book.specs.BookLaws.{all-map}
 use Rattle.book.specs.Tables.{entries}
 use Rattle.book.specs.EntryLaws.{Short, entries-induction}
-use Rattle.rules.specs.Area.{areaSize, spelled, blocks}
+use Rattle.rules.specs.Area.{spelled, blocks}
+use Rattle.limits.specs.Limits.{areaSize}
 use Rattle.rules.specs.AreaLaws.{length-blocks}
 use Rattle.rules.specs.ValidLaws.{Valid}
 use Rattle.automaton.specs.Area.{Spells, Bounded, Given, spells-nil, spells-cons}

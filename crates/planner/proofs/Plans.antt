@@ -11,12 +11,12 @@ use Rattle.book.specs.declared.Refusal.{Refusal}
 use Rattle.book.specs.declared.Refusal.the-variants.{Area, Endpoint, Invalid}
 use Rattle.book.specs.Refusal.{refusalOf}
 use Rattle.book.specs.Book.{Book, graph}
-use Rattle.rules.specs.Area.{areaSize, spelled, valid}
+use Rattle.rules.specs.Area.{spelled, valid}
+use Rattle.limits.specs.Limits.{areaSize, longest}
 use Rattle.search.specs.declared.Found.{Found}
 use Rattle.search.specs.declared.Found.the-variants.{Walk, Nothing}
 use Rattle.search.specs.Plan as search
 use Rattle.planner.specs.declared.Outcome.{Outcome}
-use Rattle.rules.specs.Checking.{longest}
 use Rattle.planner.specs.Planning.{tests, Planned, PlanningIn}
 
 -- the tests' verdict, by what each of them says

@@ -12,8 +12,8 @@ use Rattle.book.specs.declared.Refusal.{Refusal}
 use Rattle.book.specs.Refusal.{Groups, refusalOf}
 use Rattle.book.specs.Book.{Book, graph}
 use Rattle.book.specs.Reading.{Reading, accepted, refused, reading}
-use Rattle.rules.specs.Area.{areaSize, spelled, valid}
-use Rattle.rules.specs.Checking.{longest}
+use Rattle.rules.specs.Area.{spelled, valid}
+use Rattle.limits.specs.Limits.{areaSize, longest}
 use Rattle.search.specs.Plan.{PlannedWalk}
 use Rattle.planner.specs.declared.Outcome.{Outcome}
 use Rattle.planner.specs.declared.Outcome.the-variants.{Walk, Nothing, Refused}

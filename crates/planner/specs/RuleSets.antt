@@ -15,13 +15,13 @@ use Rattle.book.specs.declared.Refusal.{Refusal}
 use Rattle.book.specs.Refusal.{refusalOf}
 use Rattle.book.specs.Book.{Book, blank}
 use Rattle.book.specs.Reading.{accepted, reading, kept}
-use Rattle.rules.specs.Area.{areaSize, spelled, valid}
+use Rattle.rules.specs.Area.{spelled, valid}
+use Rattle.limits.specs.Limits.{areaSize, longest}
 use Rattle.rules.specs.Binding.{known}
 use Rattle.rules.specs.Operations.{Binding, binding, areaAfter}
 use Rattle.rules.specs.Laws.{same-set, Filled, bind-accepted}
 use Rattle.planner.specs.declared.Outcome.{Outcome}
 use Rattle.planner.specs.declared.Outcome.the-variants.{Walk, Nothing, Refused}
-use Rattle.rules.specs.Checking.{longest}
 use Rattle.planner.specs.Planning.{Planned, PlanningOf, Planning}
 
 -- The same count and arcs, and the same rule sets in another order.

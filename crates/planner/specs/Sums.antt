@@ -21,7 +21,7 @@ use Rattle.rules.specs.Operations.{Binding, binding, areaAfter}
 use Rattle.rules.specs.Laws.{bind-accepted}
 use Rattle.planner.specs.declared.Outcome.{Outcome}
 use Rattle.planner.specs.declared.Outcome.the-variants.{Walk, Nothing}
-use Rattle.rules.specs.Checking.{longest}
+use Rattle.limits.specs.Limits.{longest}
 use Rattle.planner.specs.Planning.{Planned, Planning}
 use Rattle.planner.specs.RuleSets.{refusal, decided, planned-known, planned-same}
 

@@ -13,9 +13,13 @@ ghost use Rattle.planner.specs.Planning.{Planning, PlanningIn};
 use automaton::STATES;
 use automaton::STEPS;
 use book::Answer;
-use book::NO_ARC;
 use book::Refusal;
-use rules::LONGEST;
+use limits::AREA;
+use limits::LONGEST;
+use limits::MOST_PATHS;
+use limits::MOST_SETS;
+use limits::NO_ARC;
+use limits::PAIRS;
 use search::Found;
 
 pub enum Outcome {
@@ -35,10 +39,10 @@ pub fn plan(
 ) -> Outcome
     ensures { λ r. ⌜ Planning (now (bytes .entry)) (now (paths .entry)) count start end (now (walk .entry)) r (now (walk .exit)) ⌝ }
 {
-    let mut weights = [NO_ARC; 4096];
-    let mut flags = [0u16; 16];
-    let mut owners = [0u8; 256];
-    let mut entries = [0u8; 2304];
+    let mut weights = [NO_ARC; PAIRS];
+    let mut flags = [0u16; MOST_SETS];
+    let mut owners = [0u8; MOST_PATHS];
+    let mut entries = [0u8; AREA];
     let read = book::load(bytes, &mut weights, &mut flags, &mut owners, &mut entries);
     match read {
         Answer::Refused(r) => Outcome::Refused(r),
@@ -48,7 +52,7 @@ pub fn plan(
 
 // The same in a book that has been read.
 pub fn plan_in(
-    weights: &[u32; 4096],
+    weights: &[u32; PAIRS],
     vertices: usize,
     paths: &[u8],
     count: usize,
@@ -59,7 +63,7 @@ pub fn plan_in(
     requires { ⌜ ((b : Book) × WellFormed b × (vertices ≡ b .count) × (now weights ≡ weightTable (b .arcs))) ⌝ }
     ensures { λ r. ⌜ ((b : Book) → WellFormed b → vertices ≡ b .count → now (weights .entry) ≡ weightTable (b .arcs) → PlanningIn b (now (paths .entry)) count start end (now (walk .entry)) r (now (walk .exit))) ⌝ }
 {
-    if paths.len() < rules::AREA {
+    if paths.len() < limits::AREA {
         return Outcome::Refused(Refusal::Area);
     }
     if walk.len() < LONGEST {
@@ -83,7 +87,7 @@ pub fn plan_in(
 
 // The best walk, over the automaton of the forbidden paths.
 fn best_walk(
-    weights: &[u32; 4096],
+    weights: &[u32; PAIRS],
     vertices: usize,
     paths: &[u8],
     count: usize,

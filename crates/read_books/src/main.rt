@@ -2,11 +2,15 @@
 ghost use Prim.Native.Nat.{_<_};
 use book::Answer;
 use book::Counts;
-use book::NO_ARC;
 use cases::Next;
 use cases::number;
 use cases::text;
 use cases::wide;
+use limits::AREA;
+use limits::MOST_PATHS;
+use limits::MOST_SETS;
+use limits::NO_ARC;
+use limits::PAIRS;
 
 fn wide16(x: u16) -> usize {
     x as usize
@@ -29,7 +33,7 @@ fn write_counts(c: Counts) {
 }
 
 // In rising order of tail, then head.
-fn write_arcs(weights: &[u32; 4096]) {
+fn write_arcs(weights: &[u32; PAIRS]) {
     for pair in 0..4096usize {
         let weight = weights[pair];
         if weight != NO_ARC {
@@ -42,7 +46,7 @@ fn write_arcs(weights: &[u32; 4096]) {
     }
 }
 
-fn write_path(entries: &[u8; 2304], j: usize)
+fn write_path(entries: &[u8; AREA], j: usize)
     requires { ⌜ j < 256 ⌝ }
 {
     text(b"RUN");
@@ -55,7 +59,7 @@ fn write_path(entries: &[u8; 2304], j: usize)
     text(b"\n");
 }
 
-fn write_paths_of(set: usize, count: usize, owners: &[u8; 256], entries: &[u8; 2304]) {
+fn write_paths_of(set: usize, count: usize, owners: &[u8; MOST_PATHS], entries: &[u8; AREA]) {
     for j in 0..256usize {
         if j < count {
             if wide(owners[j]) == set {
@@ -65,7 +69,12 @@ fn write_paths_of(set: usize, count: usize, owners: &[u8; 256], entries: &[u8; 2
     }
 }
 
-fn write_sets(c: Counts, flags: &[u16; 16], owners: &[u8; 256], entries: &[u8; 2304]) {
+fn write_sets(
+    c: Counts,
+    flags: &[u16; MOST_SETS],
+    owners: &[u8; MOST_PATHS],
+    entries: &[u8; AREA],
+) {
     for set in 0..16usize {
         if set < c.sets {
             text(b"SHEET");
@@ -77,10 +86,10 @@ fn write_sets(c: Counts, flags: &[u16; 16], owners: &[u8; 256], entries: &[u8; 2
 }
 
 fn write_book(bytes: &[u8]) {
-    let mut weights = [NO_ARC; 4096];
-    let mut flags = [0u16; 16];
-    let mut owners = [0u8; 256];
-    let mut entries = [0u8; 2304];
+    let mut weights = [NO_ARC; PAIRS];
+    let mut flags = [0u16; MOST_SETS];
+    let mut owners = [0u8; MOST_PATHS];
+    let mut entries = [0u8; AREA];
     match book::load(bytes, &mut weights, &mut flags, &mut owners, &mut entries) {
         Answer::Read(counts) => {
             write_counts(counts);

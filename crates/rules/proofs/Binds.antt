@@ -11,7 +11,8 @@ use Rattle.book.specs.declared.Refusal.the-variants.{Area}
 use Rattle.book.specs.Book.{Book, WellFormed}
 use Rattle.book.specs.Reading.{accepted, refused, reading}
 use Rattle.rules.specs.declared.Bound.the-variants.{Known, Refused}
-use Rattle.rules.specs.Area.{areaSize, written}
+use Rattle.rules.specs.Area.{written}
+use Rattle.limits.specs.Limits.{areaSize}
 use Rattle.rules.specs.Binding.{known}
 use Rattle.rules.specs.BindingLaws.{known-few, known-short}
 use Rattle.rules.specs.Operations.{Binding, bindingOf, binding, answer, areaAfter}

@@ -13,7 +13,8 @@ use Rattle.book.specs.Book.{Book, graph}
 use Rattle.book.specs.Reading.{accepted, refused, reading}
 use Rattle.rules.specs.declared.Checked.{Checked}
 use Rattle.rules.specs.declared.Checked.the-variants.{Refused}
-use Rattle.rules.specs.Area.{areaSize, spelled, valid}
+use Rattle.rules.specs.Area.{spelled, valid}
+use Rattle.limits.specs.Limits.{areaSize}
 use Rattle.rules.specs.Checking.{checkable, occurrence}
 use Rattle.rules.specs.Operations.{verdict, checkingOf, checking}
 use Rattle.book.specs.Refusal.{refusalOf}

@@ -9,7 +9,8 @@ use Rattle.book.specs.Book.{All}
 use Rattle.book.specs.BookLaws.{all-snoc}
 use Rattle.book.specs.Tables.{padded, entry, entries}
 use Rattle.rules.specs.Binding.{member}
-use Rattle.rules.specs.Area.{areaSize, written, blocks}
+use Rattle.rules.specs.Area.{written, blocks}
+use Rattle.limits.specs.Limits.{areaSize}
 use Rattle.book.specs.EntryLaws.{Short, length-padded, length-entry, entries-snoc, length-entries}
 use Rattle.rules.specs.AreaLaws.{padded-zeros, padded-paste, entry-at, member-entry, blocks-entries}
 

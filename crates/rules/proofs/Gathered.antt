@@ -12,7 +12,8 @@ use Rattle.book.specs.Book.{RuleSet, All, allPaths}
 use Rattle.book.specs.BookLaws.{all-snoc}
 use Rattle.book.specs.Tables.{entry, entries, flagsOf, ownersFrom, ownerTable}
 use Rattle.rules.specs.Binding.{covers, bound, member, add, known}
-use Rattle.rules.specs.Area.{areaSize, written, blocks}
+use Rattle.rules.specs.Area.{written, blocks}
+use Rattle.limits.specs.Limits.{areaSize}
 use Rattle.book.specs.EntryLaws.{Short, length-owners}
 use Rattle.rules.specs.AreaLaws.{entry-at, member-entry}
 use Rattle.rules.specs.Listed.{Listed}

@@ -11,7 +11,7 @@ use Rattle.book.specs.Book.{Book, All, WellFormed, allPaths, counts}
 use Rattle.book.specs.BookLaws.{answer-read, reading-is-book, all-map}
 use Rattle.book.specs.Reading.{accepted, reading, answer}
 use Rattle.book.specs.Tables.{Tables, entries}
-use Rattle.rules.specs.Area.{areaSize}
+use Rattle.limits.specs.Limits.{areaSize}
 use Rattle.book.specs.EntryLaws.{Short, length-padded, length-entries}
 use Rattle.rules.specs.Listed.{Listed}
 use Rattle.rules.proofs.Gathered.{owners-below}

@@ -15,7 +15,8 @@ use Rattle.book.specs.Book.{All}
 use Rattle.book.specs.BookLaws.{all-snoc}
 use Rattle.book.specs.Tables.{entries}
 use Rattle.rules.specs.Binding.{member, once}
-use Rattle.rules.specs.Area.{areaSize, written, blocks, pathOf, spelled, isEntry, valid}
+use Rattle.rules.specs.Area.{written, blocks, pathOf, spelled, isEntry, valid}
+use Rattle.limits.specs.Limits.{areaSize}
 use Rattle.book.specs.EntryLaws.{Short}
 use Rattle.rules.specs.AreaLaws.{length-byte, path-part, path-size, length-blocks, blocks-append, spelled-up-to}
 use Rattle.rules.specs.Sets.{once-snoc, once-front, refuted}

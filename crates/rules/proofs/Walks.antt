@@ -12,8 +12,9 @@ use Rattle.walks.specs.Graph.{isArc}
 use Rattle.walks.specs.Walk.{isWalk, isWalkFrom}
 use Rattle.book.specs.Book.{Book, WellFormed, graph}
 use Rattle.book.specs.TableLaws.{marked→free, unmarked→given}
-use Rattle.book.specs.Tables.{noArc, weightTable}
-use Rattle.rules.specs.Checking.{longest, checkable}
+use Rattle.book.specs.Tables.{weightTable}
+use Rattle.limits.specs.Limits.{noArc, longest}
+use Rattle.rules.specs.Checking.{checkable}
 
 and-no : (x : Bool) → x && false ≡ false
 and-no true = refl

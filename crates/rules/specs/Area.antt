@@ -5,17 +5,11 @@ use mathlib.Core.List.{List, [], _∷_, map}
 use lib.Dec.{leb}
 use lib.ListN.{getD, take, drop}
 use Rattle.lists.specs.Test.{all}
+use Rattle.limits.specs.Limits.{mostPaths, areaSize}
 use Rattle.walks.specs.Avoid.{same}
 use Rattle.book.specs.Book.{simple}
 use Rattle.book.specs.Tables.{padded, entries}
 use Rattle.rules.specs.Binding.{once}
-
--- How many paths an area holds, and its bytes.
-abbrev pub mostPaths : ℕ
-mostPaths = 256
-
-abbrev pub areaSize : ℕ
-areaSize = 2304
 
 -- The bytes that hold the paths of F.
 abbrev pub written : List (List ℕ) → List ℕ

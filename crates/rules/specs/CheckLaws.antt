@@ -11,9 +11,8 @@ use borrow.Author.Tests.{eqb-true, eq-eqb, leb-true, le-leb}
 use lib.Dec.{eqb, leb}
 use lib.ListN.{length, take, drop, length-append, take-append-drop}
 use lib.Seq.{slice, take-at, drop-at}
-use Rattle.lists.specs.Test.{any→some, some→any}
+use Rattle.lists.specs.Test.{any→some, some→any, and-true}
 use Rattle.walks.specs.Avoid.{Occurs, Avoids, same}
-use Rattle.lists.specs.Test.{and-true}
 use Rattle.rules.specs.declared.Checked.the-variants.{Clear, Occurs as Occurs-at}
 use Rattle.rules.specs.AreaLaws.{slice-part}
 use Rattle.rules.specs.Checking.{endsAt, someEnds, firstFrom, namedAt, answerAt, checkFrom, occurrence}

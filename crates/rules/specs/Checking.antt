@@ -6,6 +6,7 @@ use mathlib.Core.Option.{Option, none, some}
 use lib.Dec.{eqb, leb}
 use lib.ListN.{length}
 use lib.Seq.{slice}
+use Rattle.limits.specs.Limits.{longest}
 use Rattle.walks.specs.Graph.{Graph}
 use Rattle.walks.specs.Walk.{isWalk}
 use Rattle.lists.specs.Test.{any}
@@ -42,10 +43,6 @@ checkFrom F w (suc k) e = answerAt e (namedAt F w e) (checkFrom F w k (suc e))
 
 abbrev pub occurrence : List (List ℕ) → List ℕ → Checked
 occurrence F w = checkFrom F w (length w) 1
-
--- How long a walk may be (01: a plan has at most 1,600 grades), and the least size of the line-up area.
-abbrev pub longest : ℕ
-longest = 1600
 
 -- 10: what is to be checked is a walk of the book's graph, and not too long.
 abbrev pub checkable : Graph → List ℕ → Bool

@@ -19,7 +19,8 @@ use Rattle.book.specs.Reading.{Reading, reading}
 use Rattle.rules.specs.declared.Checked.{Checked}
 use Rattle.rules.specs.declared.Checked.the-variants.{Clear}
 use Rattle.rules.specs.Binding.{applies, bound, known, once}
-use Rattle.rules.specs.Area.{areaSize, written, spelled, valid}
+use Rattle.rules.specs.Area.{written, spelled, valid}
+use Rattle.limits.specs.Limits.{areaSize}
 use Rattle.rules.specs.Checking.{checkable, occurrence}
 use Rattle.rules.specs.Operations.{refusalIn, bookIn, tests, Binding, outcome, bindingOf, binding, areaAfter, verdict, checkingOf, checking}
 use Rattle.rules.specs.Sets.{listed→distinct, distinct→listed}

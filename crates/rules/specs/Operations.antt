@@ -12,7 +12,8 @@ use Rattle.book.specs.Reading.{Reading, reading, kept}
 use Rattle.rules.specs.declared.Bound.{Bound}
 use Rattle.rules.specs.declared.Checked.{Checked}
 use Rattle.rules.specs.Binding.{known}
-use Rattle.rules.specs.Area.{areaSize, written, spelled, valid}
+use Rattle.rules.specs.Area.{written, spelled, valid}
+use Rattle.limits.specs.Limits.{areaSize}
 use Rattle.rules.specs.Checking.{occurrence, checkable}
 
 -- 1 to 6: the refusal of the bytes of a book, if they have one.

@@ -8,11 +8,10 @@ use native.Mathlib.Omega.{arith}
 use borrow.Author.Tests.{not-true}
 use lib.Dec.{T, eqb, eqb·suc-suc}
 use lib.ListN.{length, length-append}
-use Rattle.lists.specs.Test.{any→some, some→any}
+use Rattle.lists.specs.Test.{any→some, some→any, and-true}
 use Rattle.walks.specs.Avoid.{isPrefix, same, same→≡, same-refl}
 use Rattle.book.specs.Book.{All}
 use Rattle.book.specs.BookLaws.{all-snoc}
-use Rattle.lists.specs.Test.{and-true}
 use Rattle.rules.specs.Binding.{member, add, once}
 
 -- ---- tests

@@ -8,14 +8,14 @@ use borrow.Author.Tests.{leb-true, le-leb, lt-ltb}
 use lib.Dec.{leb}
 use lib.ListN.{length, getD, take, drop, replicate, length-drop}
 use lib.Seq.{take-at, length-take-le}
-use Rattle.lists.specs.Test.{all}
+use Rattle.lists.specs.Test.{all, and-true}
 use Rattle.walks.specs.Avoid.{same}
 use Rattle.book.specs.Book.{All, IsPath, VerticesOnce, simple}
 use Rattle.book.specs.BookLaws.{simple-below, simple-once, all-map}
 use Rattle.book.specs.Tables.{entry, entries}
-use Rattle.lists.specs.Test.{and-true}
 use Rattle.rules.specs.Binding.{once}
-use Rattle.rules.specs.Area.{areaSize, written, blocks, pathOf, spelled, isEntry, valid}
+use Rattle.rules.specs.Area.{written, blocks, pathOf, spelled, isEntry, valid}
+use Rattle.limits.specs.Limits.{areaSize}
 use Rattle.book.specs.EntryLaws.{Short, length-padded, length-entries}
 use Rattle.rules.specs.AreaLaws.{path-of-entry, blocks-entries, spelled-entries}
 use Rattle.rules.specs.Sets.{same-true, true-same}

@@ -5,10 +5,11 @@ ghost use lib.ListN.{length, take, drop};
 ghost use lib.Seq.{paste};
 ghost use Rattle.walks.specs.Avoid.{same};
 ghost use Rattle.rules.specs.Binding.{member};
-ghost use Rattle.rules.specs.Area.{blocks, areaSize};
+ghost use Rattle.rules.specs.Area.{blocks};
+ghost use Rattle.limits.specs.Limits.{areaSize};
 ghost use Rattle.rules.specs.Area.{isEntry as Area·isEntry, valid as Area·valid};
-use crate::AREA;
 use book::simple;
+use limits::AREA;
 use lists::wide;
 
 pub fn copy(src: &[u8], from: usize, dst: &mut [u8], to: usize, n: usize)
@@ -78,7 +79,7 @@ pub fn valid(area: &[u8], count: usize, vertices: usize) -> bool
     if 256 < count {
         return false;
     }
-    let mut clean = [0u8; 2304];
+    let mut clean = [0u8; AREA];
     let mut k = 0;
     while k < count {
         let at = k * 9;

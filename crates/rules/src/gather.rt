@@ -5,10 +5,13 @@ ghost use mathlib.Core.List.{List};
 ghost use lib.ListN.{length, getD, replicate};
 ghost use Rattle.book.specs.Book.{RuleSet};
 ghost use Rattle.rules.specs.Binding.{covers, known};
-ghost use Rattle.rules.specs.Area.{areaSize, written};
+ghost use Rattle.rules.specs.Area.{written};
+ghost use Rattle.limits.specs.Limits.{areaSize};
 ghost use Rattle.rules.specs.Listed.{Listed};
 use crate::area::copy;
 use crate::area::found;
+use limits::MOST_PATHS;
+use limits::MOST_SETS;
 use lists::wide;
 
 // Whether each of the needed flags is held.
@@ -31,8 +34,8 @@ fn applies(needed: u16, held: u16) -> bool
 
 // Enters the distinct paths of the rule sets that apply into a blank area, and answers how many they are.
 pub fn gather(
-    needed: &[u16; 16],
-    owners: &[u8; 256],
+    needed: &[u16; MOST_SETS],
+    owners: &[u8; MOST_PATHS],
     entries: &[u8],
     paths: usize,
     flags: u16,

@@ -10,17 +10,15 @@ mod walk;
 pub use area::copy;
 pub use area::valid;
 use book::Answer;
-use book::NO_ARC;
 use book::Refusal;
 use gather::gather;
+use limits::AREA;
+use limits::MOST_PATHS;
+use limits::MOST_SETS;
+use limits::NO_ARC;
+use limits::PAIRS;
 pub use walk::is_walk;
 pub use walk::search;
-
-// How many bytes the runs area has.
-pub const AREA: usize = 2304;
-
-// How many vertices a walk may have, and the bytes of its area.
-pub const LONGEST: usize = 1600;
 
 pub enum Bound {
     Known(usize),
@@ -38,10 +36,10 @@ pub enum Checked {
 pub fn bind(bytes: &[u8], flags: u16, area: &mut [u8]) -> Bound
     ensures { λ r. ⌜ (r ≡ Binding·answer (binding (now (bytes .entry)) flags (now (area .entry)))) × (now (area .exit) ≡ areaAfter (binding (now (bytes .entry)) flags (now (area .entry))) (now (area .entry))) ⌝ }
 {
-    let mut weights = [NO_ARC; 4096];
-    let mut needed = [0u16; 16];
-    let mut owners = [0u8; 256];
-    let mut entries = [0u8; 2304];
+    let mut weights = [NO_ARC; PAIRS];
+    let mut needed = [0u16; MOST_SETS];
+    let mut owners = [0u8; MOST_PATHS];
+    let mut entries = [0u8; AREA];
     let read = book::load(bytes, &mut weights, &mut needed, &mut owners, &mut entries);
     match read {
         Answer::Refused(r) => Bound::Refused(r),
@@ -49,7 +47,7 @@ pub fn bind(bytes: &[u8], flags: u16, area: &mut [u8]) -> Bound
             if area.len() < AREA {
                 return Bound::Refused(Refusal::Area);
             }
-            let mut known = [0u8; 2304];
+            let mut known = [0u8; AREA];
             let n = gather(&needed, &owners, &entries, counts.paths, flags, &mut known);
             copy(&known, 0, area, 0, AREA);
             Bound::Known(n)
@@ -61,10 +59,10 @@ pub fn bind(bytes: &[u8], flags: u16, area: &mut [u8]) -> Bound
 pub fn check(bytes: &[u8], area: &[u8], count: usize, walk: &[u8]) -> Checked
     ensures { λ r. ⌜ r ≡ checking (now (bytes .entry)) (now (area .entry)) count (now (walk .entry)) ⌝ }
 {
-    let mut weights = [NO_ARC; 4096];
-    let mut needed = [0u16; 16];
-    let mut owners = [0u8; 256];
-    let mut entries = [0u8; 2304];
+    let mut weights = [NO_ARC; PAIRS];
+    let mut needed = [0u16; MOST_SETS];
+    let mut owners = [0u8; MOST_PATHS];
+    let mut entries = [0u8; AREA];
     let read = book::load(bytes, &mut weights, &mut needed, &mut owners, &mut entries);
     match read {
         Answer::Refused(r) => Checked::Refused(r),

@@ -7,12 +7,13 @@ ghost use Rattle.book.specs.Tables.{weightTable};
 ghost use Rattle.rules.specs.Area.{blocks, spelled};
 ghost use Rattle.rules.specs.Checking.{occurrence, checkable};
 use crate::Checked;
-use crate::LONGEST;
-use book::NO_ARC;
+use limits::LONGEST;
+use limits::NO_ARC;
+use limits::PAIRS;
 use lists::wide;
 
 // Whether what is to be checked is a walk, and not too long.
-pub fn is_walk(weights: &[u32; 4096], vertices: usize, walk: &[u8]) -> bool
+pub fn is_walk(weights: &[u32; PAIRS], vertices: usize, walk: &[u8]) -> bool
     requires { ⌜ vertices ≤ 64 ⌝ }
     ensures { λ r. ⌜ ((b : Book) → WellFormed b → vertices ≡ b .count → now (weights .entry) ≡ weightTable (b .arcs) → r ≡ checkable (graph b) (now (walk .entry))) ⌝ }
 {

@@ -9,7 +9,7 @@ use native.Mathlib.Omega.{arith}
 use lib.Dec.{eqb}
 use lib.ListN.{length, getD, set, length-set}
 use Rattle.distances.specs.Edge.{Edge}
-use Rattle.book.specs.Tables.{noArc}
+use Rattle.limits.specs.Limits.{noArc}
 use Rattle.search.specs.Product.{arcAt, stepTo, isOpen, edgeOver, edgesFrom}
 use Rattle.search.specs.Columns.{Columns, columns-more}
 

@@ -12,7 +12,7 @@ use Rattle.distances.specs.Edge.{Edge, _∈_}
 use Rattle.distances.specs.Pack.{pack}
 use Rattle.automaton.specs.Automaton.{go}
 use Rattle.automaton.specs.Built.{bit}
-use Rattle.book.specs.Tables.{noArc}
+use Rattle.limits.specs.Limits.{noArc}
 
 -- The tables: the weights of the arcs, the steps, the blocked vertices and the latest vertex of the states.
 module _ (weights steps marks latests : List ℕ) where

@@ -16,7 +16,7 @@ use Rattle.automaton.specs.States.{latest}
 use Rattle.automaton.specs.Automaton.{go, blocked}
 use Rattle.automaton.specs.Follow.{Step}
 use Rattle.automaton.specs.Built.{Built, Numbers, bit, flag}
-use Rattle.book.specs.Tables.{noArc}
+use Rattle.limits.specs.Limits.{noArc}
 use Rattle.search.specs.Weights.{Weights}
 use Rattle.search.specs.Product.{arcAt, stepTo, isOpen, edgeOver, stateEdges, edges-over, over-edges}
 

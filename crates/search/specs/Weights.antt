@@ -7,7 +7,8 @@ use native.Mathlib.Omega.{arith}
 use lib.ListN.{getD}
 use Rattle.walks.specs.Graph.{Graph}
 use Rattle.book.specs.Book.{Book, graph, WellFormed, IsArc}
-use Rattle.book.specs.Tables.{noArc, weightTable}
+use Rattle.book.specs.Tables.{weightTable}
+use Rattle.limits.specs.Limits.{noArc}
 use Rattle.book.specs.TableLaws.{table-weight, found}
 
 -- The weight of the arc from u to v stands at u * 64 + v, and the mark `noArc` where there is none. No arc weighs over 1,000,000.

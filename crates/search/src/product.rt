@@ -10,7 +10,7 @@ ghost use lib.Dec.{eqb};
 ghost use lib.ListN.{length};
 ghost use Rattle.distances.specs.Edge.{Edge, edges};
 ghost use Rattle.distances.specs.Table.{passes};
-ghost use Rattle.book.specs.Tables.{noArc};
+ghost use Rattle.limits.specs.Limits.{noArc};
 ghost use Rattle.search.specs.Product.{edgesFrom, stateEdges};
 ghost use Rattle.search.specs.Columns.{Columns};
 ghost use Rattle.search.specs.Targets.{targets};
@@ -18,10 +18,11 @@ ghost use Rattle.search.specs.Fits.{Row, Fits};
 ghost use Rattle.search.specs.Scratch.{Scratch, Room};
 use automaton::STATES;
 use automaton::STEPS;
-use book::NO_ARC;
 use distances::INF;
 use distances::link;
 use distances::settle;
+use limits::NO_ARC;
+use limits::PAIRS;
 
 // How many states and steps there are for a usual book at most. Work tables are cleared before use, and to clear those for all
 // states would take longer than a usual search.
@@ -41,7 +42,7 @@ pub fn is_open(weight: u32, marks: u64) -> bool
 fn edges_from(
     n: usize,
     q: usize,
-    weights: &[u32; 4096],
+    weights: &[u32; PAIRS],
     steps: &[u16],
     blocked: &[u64],
     latest: &[u8],
@@ -78,7 +79,7 @@ fn edges_from(
 pub fn edges(
     n: usize,
     m: usize,
-    weights: &[u32; 4096],
+    weights: &[u32; PAIRS],
     steps: &[u16],
     blocked: &[u64],
     latest: &[u8],
@@ -152,7 +153,7 @@ fn distances_over(
 fn distances_to(
     n: usize,
     end: u8,
-    weights: &[u32; 4096],
+    weights: &[u32; PAIRS],
     steps: &[u16],
     blocked: &[u64],
     latest: &[u8],
@@ -188,7 +189,7 @@ fn distances_to(
 fn all_distances(
     n: usize,
     end: u8,
-    weights: &[u32; 4096],
+    weights: &[u32; PAIRS],
     steps: &[u16],
     blocked: &[u64],
     latest: &[u8],
@@ -225,7 +226,7 @@ fn all_distances(
 fn usual_distances(
     n: usize,
     end: u8,
-    weights: &[u32; 4096],
+    weights: &[u32; PAIRS],
     steps: &[u16],
     blocked: &[u64],
     latest: &[u8],
@@ -262,7 +263,7 @@ fn usual_distances(
 pub fn distances(
     n: usize,
     end: u8,
-    weights: &[u32; 4096],
+    weights: &[u32; PAIRS],
     steps: &[u16],
     blocked: &[u64],
     latest: &[u8],

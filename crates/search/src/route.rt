@@ -14,12 +14,13 @@ use crate::product::distances;
 use crate::product::is_open;
 use automaton::STATES;
 use distances::INF;
+use limits::PAIRS;
 
 // The usable vertices below n at state q as a word: those over which the entry falls by the arc and one hop.
 fn usable(
     n: usize,
     q: usize,
-    weights: &[u32; 4096],
+    weights: &[u32; PAIRS],
     steps: &[u16],
     blocked: &[u64],
     latest: &[u8],
@@ -52,7 +53,7 @@ fn usable(
 fn next(
     n: usize,
     q: usize,
-    weights: &[u32; 4096],
+    weights: &[u32; PAIRS],
     steps: &[u16],
     blocked: &[u64],
     latest: &[u8],
@@ -68,7 +69,7 @@ fn next(
 pub fn walk(
     n: usize,
     start: usize,
-    weights: &[u32; 4096],
+    weights: &[u32; PAIRS],
     steps: &[u16],
     blocked: &[u64],
     latest: &[u8],
@@ -100,7 +101,7 @@ fn plan_in(
     n: usize,
     start: usize,
     end: u8,
-    weights: &[u32; 4096],
+    weights: &[u32; PAIRS],
     steps: &[u16],
     blocked: &[u64],
     latest: &[u8],
@@ -129,7 +130,7 @@ pub fn best_walk(
     m: usize,
     start: usize,
     end: u8,
-    weights: &[u32; 4096],
+    weights: &[u32; PAIRS],
     steps: &[u16],
     blocked: &[u64],
     latest: &[u8],

@@ -3,7 +3,7 @@ use Prim.Native.Nat.{ℕ, _+_, _<_}
 use mathlib.Core.Path.{_≡_, subst}
 use Rattle.planner.specs.declared.Outcome.{Outcome}
 use Rattle.planner.specs.declared.Outcome.the-variants.{Walk, Nothing, Refused}
-use Rattle.rules.specs.Checking.{longest}
+use Rattle.limits.specs.Limits.{longest}
 use Rattle.trial_record.specs.declared.Record.{Record}
 
 -- Trials begin with that many forbidden paths known; there is no plan yet.

@@ -18,7 +18,8 @@ use Rattle.book.specs.Book.{Book, graph}
 use Rattle.book.specs.BookLaws.{reading-is-book}
 use Rattle.book.specs.Reading.{Reading, accepted, refused, reading}
 use Rattle.rules.specs.declared.Bound.{Bound}
-use Rattle.rules.specs.Area.{areaSize, written, spelled, valid}
+use Rattle.rules.specs.Area.{written, spelled, valid}
+use Rattle.limits.specs.Limits.{areaSize, longest}
 use Rattle.rules.specs.Binding.{known}
 use Rattle.rules.specs.Operations.{Binding, binding, bindingOf, outcome, answer, areaAfter}
 use Rattle.rules.specs.ValidLaws.{written-length}
@@ -28,7 +29,6 @@ use denote.Enum.Declared.{tagOf}
 use Rattle.planner.specs.declared.Outcome.{Outcome}
 use Rattle.planner.proofs.Outcome.{the-type}
 use Rattle.planner.specs.declared.Outcome.the-variants.{Walk, Nothing, Refused}
-use Rattle.rules.specs.Checking.{longest}
 use Rattle.planner.specs.Planning.{tests, Planned, PlanningOf, Planning}
 use Rattle.trials.specs.declared.Begun.{Begun}
 use Rattle.trials.specs.Trials.{beginRefusal}

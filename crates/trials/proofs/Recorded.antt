@@ -13,8 +13,8 @@ use Rattle.walks.specs.Feasible.{isFeasible}
 use Rattle.book.specs.declared.Refusal.the-variants.{Area, Invalid, Ended}
 use Rattle.book.specs.Refusal.{refusalOf}
 use Rattle.book.specs.Book.{Book, graph}
-use Rattle.rules.specs.Area.{areaSize, valid}
-use Rattle.rules.specs.Checking.{longest}
+use Rattle.rules.specs.Area.{valid}
+use Rattle.limits.specs.Limits.{areaSize, longest}
 use Rattle.trial_record.specs.declared.Record.{Record}
 use Rattle.trials.specs.declared.judge.Judged.{Judged}
 use Rattle.trials.specs.declared.judge.Judged.the-variants.{Standing, Refused}

@@ -22,11 +22,11 @@ use Rattle.book.specs.EntryLaws.{length-entries, entries-snoc}
 use Rattle.book.specs.Reading.{accepted}
 use Rattle.book.specs.Tables.{entries, padded}
 use Rattle.book.proofs.Padded.{padded-entry}
-use Rattle.rules.specs.Area.{areaSize, written, blocks, spelled, valid}
+use Rattle.rules.specs.Area.{written, blocks, spelled, valid}
+use Rattle.limits.specs.Limits.{areaSize, longest}
 use Rattle.rules.specs.AreaLaws.{length-blocks}
 use Rattle.rules.specs.ValidLaws.{written-length, written-valid, written-spells}
 use Rattle.planner.specs.declared.Outcome.{Outcome}
-use Rattle.rules.specs.Checking.{longest}
 use Rattle.planner.specs.Planning.{tests, Planned, PlanningIn}
 use Rattle.trial_record.specs.declared.Record.{Record}
 use Rattle.trials.specs.declared.Reported.{Reported}

@@ -13,12 +13,12 @@ use Rattle.walks.specs.Avoid.{avoids, avoids→Avoids, Avoids→avoids}
 use Rattle.walks.specs.Feasible.{isFeasible}
 use Rattle.book.specs.Book.{All, IsPath}
 use Rattle.rules.specs.declared.Checked.the-variants.{Clear}
-use Rattle.rules.specs.Area.{areaSize, spelled, valid}
+use Rattle.rules.specs.Area.{spelled, valid}
+use Rattle.limits.specs.Limits.{areaSize, longest}
 use Rattle.rules.specs.Checking.{checkable, occurrence}
 use Rattle.rules.specs.CheckLaws.{clear→Avoids, Avoids→clear}
 use Rattle.rules.specs.Sets.{iff, refuted}
 use Rattle.rules.specs.ValidLaws.{valid→Valid}
-use Rattle.rules.specs.Checking.{longest}
 use Rattle.trials.specs.Tests.{T→true, true→T}
 
 pub only-walk : (g : Graph) (w : List ℕ) → length w ≤ longest → checkable g w ≡ isWalk g w

@@ -14,7 +14,7 @@ use Rattle.lists.specs.Test.{and-true}
 use Rattle.walks.specs.Graph.{Graph, isSome, isArc, arcWeight}
 use Rattle.walks.specs.Walk.{isWalk, isWalkFrom, weightOf, weightFrom}
 use Rattle.book.specs.Book.{Book, graph}
-use Rattle.book.specs.Tables.{noArc}
+use Rattle.limits.specs.Limits.{noArc}
 use Rattle.search.specs.Weights.{Weights, book-weights}
 use Rattle.trials.specs.Judging.{IsOf}
 

@@ -13,8 +13,7 @@ use Rattle.walks.specs.Graph.{Graph}
 use Rattle.book.specs.declared.Refusal.the-variants.{Endpoint, Area, Invalid, NotAWalk, Ended, NotStanding, Full}
 use Rattle.book.specs.Refusal.{Groups, Test, refusalOf, firstFailure}
 use Rattle.book.specs.RefusalLaws.{all-hold}
-use Rattle.rules.specs.Area.{areaSize}
-use Rattle.rules.specs.Checking.{longest}
+use Rattle.limits.specs.Limits.{areaSize, longest}
 use Rattle.trials.specs.Trials.{Report, State, pathArea, areasFit, isNamed, hasRoom, beginRefusal, refusal, Valid, isValid, Begin}
 use Rattle.trials.specs.Tests.{T→true, true→T, isValid→Valid, Valid→isValid}
 

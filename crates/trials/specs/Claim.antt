@@ -17,7 +17,8 @@ use Rattle.walks.specs.Best.{Best, None, Best·not-None}
 use Rattle.book.specs.declared.Refusal.{Refusal}
 use Rattle.book.specs.declared.Refusal.the-variants.{NotStanding, Full}
 use Rattle.book.specs.Refusal.{firstFailure}
-use Rattle.rules.specs.Area.{areaSize, written}
+use Rattle.rules.specs.Area.{written}
+use Rattle.limits.specs.Limits.{areaSize}
 use Rattle.rules.specs.ValidLaws.{written-length}
 use Rattle.trials.specs.Trials.{Report, passed, failed, State, pathArea, standing, trials, takes, hasRoom, passedIn, Valid, Plan, refusal, overlaid, step, unless, run, accepted, named, failures, passes, replanned, Begin, begun, stateAfter, acceptedOf}
 use Rattle.trials.specs.OperationLaws.{set-paths, set-once}

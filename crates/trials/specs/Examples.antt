@@ -13,8 +13,7 @@ use Rattle.book.specs.Refusal.{firstFailure}
 use Rattle.book.specs.Book.{simple, names}
 use Rattle.book.specs.Examples.{bookA}
 use Rattle.rules.specs.Binding.{covers, bound, once}
-use Rattle.rules.specs.Area.{areaSize}
-use Rattle.rules.specs.Checking.{longest}
+use Rattle.limits.specs.Limits.{areaSize, longest}
 use Rattle.trials.specs.Trials.{passed, failed, State, Valid, Begin, EachAccepted, run, refusal, takes, isValid, isForbiddenSet, isRecord}
 use Rattle.trials.specs.Tests.{isForbiddenSet→, isValid→Valid}
 use Rattle.trials.specs.Accepted.{oracleTests, only-oracle}

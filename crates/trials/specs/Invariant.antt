@@ -14,8 +14,7 @@ use Rattle.walks.specs.Walk.{weightOf}
 use Rattle.walks.specs.Avoid.{occurs, occurs→Occurs}
 use Rattle.walks.specs.Best.{Best, None}
 use Rattle.book.specs.declared.Refusal.{Refusal}
-use Rattle.rules.specs.Area.{mostPaths, areaSize}
-use Rattle.rules.specs.Checking.{longest}
+use Rattle.limits.specs.Limits.{mostPaths, areaSize, longest}
 use Rattle.automaton.specs.Chosen.{Decided}
 use Rattle.trials.specs.Trials.{Report, passed, failed, State, standing, takes, ForbiddenSet, Valid, Plan, Planner, refusal, overlaid, holding, step, unless, after, run, accepted, EachAccepted, named, failures, passes, replanned, Begin, begun}
 use Rattle.trials.specs.Lacking.{distinct-snoc}

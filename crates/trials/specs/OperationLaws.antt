@@ -16,11 +16,11 @@ use Rattle.book.specs.Refusal.{refusalOf}
 use Rattle.book.specs.Book.{Book, All, IsPath, graph}
 use Rattle.book.specs.Reading.{accepted}
 use Rattle.rules.specs.Binding.{once}
-use Rattle.rules.specs.Area.{areaSize, written, blocks, spelled, valid}
+use Rattle.rules.specs.Area.{written, blocks, spelled, valid}
+use Rattle.limits.specs.Limits.{areaSize, longest}
 use Rattle.rules.specs.AreaLaws.{length-blocks}
 use Rattle.rules.specs.ValidLaws.{valid→Valid, written-length, written-valid, written-spells}
 use Rattle.automaton.specs.Chosen.{chosen}
-use Rattle.rules.specs.Checking.{longest}
 use Rattle.trial_record.specs.declared.Record.{Record}
 use Rattle.trials.specs.Trials.{Report, State, pathArea, areasFit, isNamed, hasRoom, ForbiddenSet, isForbiddenSet, isRecord, isValid, Valid, refusal, step}
 use Rattle.trials.specs.Operations.{stateOf, reportRefusal, reportedAs, reportingOf}

@@ -10,7 +10,8 @@ use Rattle.book.specs.Refusal.{refusalOf}
 use Rattle.book.specs.Book.{Book, graph}
 use Rattle.book.specs.Reading.{Reading, accepted, refused, reading}
 use Rattle.rules.specs.Binding.{known}
-use Rattle.rules.specs.Area.{areaSize, spelled, valid}
+use Rattle.rules.specs.Area.{spelled, valid}
+use Rattle.limits.specs.Limits.{areaSize}
 use Rattle.trial_record.specs.declared.Record.{Record}
 use Rattle.trials.specs.declared.Begun.{Begun}
 use Rattle.trials.specs.declared.Reported.{Reported}

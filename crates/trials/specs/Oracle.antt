@@ -15,7 +15,7 @@ use Rattle.walks.specs.Walk.{weightOf}
 use Rattle.walks.specs.Order.{≼-weight}
 use Rattle.walks.specs.Avoid.{occurs, Occurs, Occurs→occurs, Avoids, _⊆_}
 use Rattle.walks.specs.Best.{Feasible, Best, None, Best·mono, None·mono, Best·not-None}
-use Rattle.rules.specs.Area.{mostPaths}
+use Rattle.limits.specs.Limits.{mostPaths}
 use Rattle.trials.specs.Trials.{Report, passed, failed, State, standing, trials, takes, refusal, isNamed, hasRoom, stageOf, step, EachAccepted, named, failures, Begin, begun, stateAfter, acceptedOf}
 use Rattle.trials.specs.Accepted.{begin-accepted, not-refused}
 use Rattle.trials.specs.Lacking.{lacking, together, together-is, distinct-snoc}

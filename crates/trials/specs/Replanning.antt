@@ -13,7 +13,7 @@ use Rattle.rules.specs.Binding.{known}
 use Rattle.rules.specs.BindingLaws.{known-few, known-paths, known-once}
 use Rattle.planner.specs.declared.Outcome.{Outcome}
 use Rattle.planner.specs.declared.Outcome.the-variants.{Walk, Nothing, Refused}
-use Rattle.rules.specs.Checking.{longest}
+use Rattle.limits.specs.Limits.{longest}
 use Rattle.planner.specs.Planning.{Planned}
 use Rattle.trial_record.specs.declared.Record.{Record}
 use Rattle.trials.specs.Trials.{ForbiddenSet, Plan, Planner, Begin, beginRefusal, stageOf, litresOf, lengthOf, overlaid}

@@ -21,11 +21,10 @@ use Rattle.book.specs.Examples.{bytesA, bookA, book-A, bytesWays, bookWays, boo
 use Rattle.automaton.specs.Chosen.{chosen}
 use Rattle.automaton.specs.Sums.{marks-3, named-123, named-13}
 use Rattle.rules.specs.Binding.{covers, bound, known, once}
-use Rattle.rules.specs.Area.{areaSize}
+use Rattle.limits.specs.Limits.{areaSize, longest}
 use Rattle.rules.specs.Operations.{Binding, outcome, bindingOf, binding, areaAfter}
 use Rattle.planner.specs.declared.Outcome.{Outcome}
 use Rattle.planner.specs.declared.Outcome.the-variants.{Walk, Nothing}
-use Rattle.rules.specs.Checking.{longest}
 use Rattle.planner.specs.Planning.{Planning}
 use Rattle.planner.specs.Sums.{Gives, sums as planning}
 use Rattle.trials.specs.declared.Begun.{Begun}

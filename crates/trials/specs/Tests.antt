@@ -18,8 +18,7 @@ use Rattle.walks.specs.Feasible.{isFeasible, isFeasible→Feasible, Feasible→
 use Rattle.book.specs.Book.{All, IsPath, VerticesOnce, simple, names}
 use Rattle.book.specs.BookLaws.{simple-below, simple-once}
 use Rattle.rules.specs.Binding.{once}
-use Rattle.rules.specs.Area.{mostPaths}
-use Rattle.rules.specs.Checking.{longest}
+use Rattle.limits.specs.Limits.{mostPaths, longest}
 use Rattle.trials.specs.Trials.{State, standing, passedIn, takes, ForbiddenSet, Valid, isForbiddenSet, isValid, isRecord}
 
 pub T→true : (b : Bool) → T b → b ≡ true

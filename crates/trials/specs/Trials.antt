@@ -21,8 +21,8 @@ use Rattle.book.specs.Book.{simple}
 use Rattle.book.specs.Reading.{fits}
 use Rattle.automaton.specs.Chosen.{Decided}
 use Rattle.rules.specs.Binding.{once}
-use Rattle.rules.specs.Area.{mostPaths, areaSize, written}
-use Rattle.rules.specs.Checking.{longest}
+use Rattle.rules.specs.Area.{written}
+use Rattle.limits.specs.Limits.{mostPaths, areaSize, longest}
 use Rattle.trial_record.specs.declared.Record.{Record}
 
 -- ---- the state of the trials

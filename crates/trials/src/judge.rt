@@ -9,15 +9,16 @@ ghost use Rattle.walks.specs.Avoid.{isPrefix};
 ghost use Rattle.walks.specs.Feasible.{isFeasible};
 ghost use Rattle.walks.specs.Avoid.{occurs as Avoid·occurs};
 ghost use Rattle.book.specs.Book.{Book, graph};
-ghost use Rattle.rules.specs.Area.{areaSize, spelled, valid};
-ghost use Rattle.rules.specs.Checking.{longest};
+ghost use Rattle.rules.specs.Area.{spelled, valid};
+ghost use Rattle.limits.specs.Limits.{areaSize, longest};
 ghost use Rattle.trials.specs.Trials.{takes, passedIn, isRecord};
 ghost use Rattle.trials.specs.Operations.{stateOf, barred};
 ghost use Rattle.trials.specs.Judging.{IsOf, judgedAs};
 use book::Refusal;
-use rules::AREA;
+use limits::AREA;
+use limits::LONGEST;
+use limits::PAIRS;
 use rules::Checked;
-use rules::LONGEST;
 use trial_record::Record;
 
 pub enum Judged {
@@ -26,7 +27,7 @@ pub enum Judged {
 }
 
 // The weight of a walk.
-fn weigh(weights: &[u32; 4096], vertices: usize, walk: &[u8]) -> u64
+fn weigh(weights: &[u32; PAIRS], vertices: usize, walk: &[u8]) -> u64
     requires { ⌜ ((b : Book) × IsOf b vertices (now weights) × (isWalk (graph b) (now walk) ≡ true)) ⌝ }
     requires { ⌜ length (now walk) ≤ longest ⌝ }
     ensures { λ r. ⌜ ((b : Book) → IsOf b vertices (now (weights .entry)) → isWalk (graph b) (now (walk .entry)) ≡ true → r ≡ weightOf (graph b) (now (walk .entry))) ⌝ }
@@ -44,7 +45,7 @@ fn weigh(weights: &[u32; 4096], vertices: usize, walk: &[u8]) -> u64
 }
 
 // Whether a walk from the record's start to its end, clear of the forbidden paths, stands, and weighs what the record says.
-fn stands(weights: &[u32; 4096], vertices: usize, rec: Record, paths: &[u8], walk: &[u8]) -> bool
+fn stands(weights: &[u32; PAIRS], vertices: usize, rec: Record, paths: &[u8], walk: &[u8]) -> bool
     requires { ⌜ ((b : Book) × IsOf b vertices (now weights)) ⌝ }
     requires { ⌜ length (now walk) ≤ longest ⌝ }
     requires { ⌜ (areaSize ≤ length (now paths)) × (valid vertices (now paths) (rec .known) ≡ true) ⌝ }
@@ -73,7 +74,13 @@ fn passed_in(stage: usize) -> usize
 }
 
 // 9 on a record, where the forbidden paths are valid.
-fn is_record(weights: &[u32; 4096], vertices: usize, rec: Record, paths: &[u8], walk: &[u8]) -> bool
+fn is_record(
+    weights: &[u32; PAIRS],
+    vertices: usize,
+    rec: Record,
+    paths: &[u8],
+    walk: &[u8],
+) -> bool
     requires { ⌜ ((b : Book) × IsOf b vertices (now weights)) ⌝ }
     requires { ⌜ longest ≤ length (now walk) ⌝ }
     requires { ⌜ (areaSize ≤ length (now paths)) × (valid vertices (now paths) (rec .known) ≡ true) ⌝ }
@@ -109,7 +116,7 @@ fn is_record(weights: &[u32; 4096], vertices: usize, rec: Record, paths: &[u8], 
 
 // 8, 9 and 11: what every report is refused for.
 pub fn judge(
-    weights: &[u32; 4096],
+    weights: &[u32; PAIRS],
     vertices: usize,
     rec: Record,
     paths: &[u8],

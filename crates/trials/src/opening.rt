@@ -1,12 +1,12 @@
 // Begin: bind, plan.
 ghost use mathlib.Core.Path.{_≡_};
 ghost use lib.ListN.{length};
-ghost use Rattle.rules.specs.Area.{areaSize};
+ghost use Rattle.limits.specs.Limits.{areaSize};
 ghost use Rattle.trials.specs.Operations.{left, beginning};
 use crate::Begun;
 use book::Refusal;
+use limits::AREA;
 use planner::Outcome;
-use rules::AREA;
 use rules::Bound;
 use trial_record::Record;
 

@@ -15,8 +15,12 @@ use crate::judge::Judged;
 use crate::judge::is_named;
 use crate::judge::judge;
 use book::Answer;
-use book::NO_ARC;
 use book::Refusal;
+use limits::AREA;
+use limits::MOST_PATHS;
+use limits::MOST_SETS;
+use limits::NO_ARC;
+use limits::PAIRS;
 use trial_record::Record;
 
 // How many forbidden paths can be known.
@@ -26,10 +30,10 @@ const MOST: usize = 256;
 pub fn report_passed(bytes: &[u8], rec: Record, paths: &[u8], walk: &[u8]) -> Reported
     ensures { λ r. ⌜ left r (now (paths .entry)) (now (walk .entry)) ≡ reporting (now (bytes .entry)) rec (now (paths .entry)) (now (walk .entry)) passed ⌝ }
 {
-    let mut weights = [NO_ARC; 4096];
-    let mut flags = [0u16; 16];
-    let mut owners = [0u8; 256];
-    let mut entries = [0u8; 2304];
+    let mut weights = [NO_ARC; PAIRS];
+    let mut flags = [0u16; MOST_SETS];
+    let mut owners = [0u8; MOST_PATHS];
+    let mut entries = [0u8; AREA];
     let read = book::load(bytes, &mut weights, &mut flags, &mut owners, &mut entries);
     match read {
         Answer::Refused(r) => Reported::Refused(r, rec),
@@ -39,7 +43,7 @@ pub fn report_passed(bytes: &[u8], rec: Record, paths: &[u8], walk: &[u8]) -> Re
 
 // The same in a book that has been read.
 fn passed_in(
-    weights: &[u32; 4096],
+    weights: &[u32; PAIRS],
     vertices: usize,
     rec: Record,
     paths: &[u8],
@@ -64,10 +68,10 @@ pub fn report_failed(
 ) -> Reported
     ensures { λ r. ⌜ left r (now (paths .exit)) (now (walk .exit)) ≡ reporting (now (bytes .entry)) rec (now (paths .entry)) (now (walk .entry)) (failed (now (named .entry))) ⌝ }
 {
-    let mut weights = [NO_ARC; 4096];
-    let mut flags = [0u16; 16];
-    let mut owners = [0u8; 256];
-    let mut entries = [0u8; 2304];
+    let mut weights = [NO_ARC; PAIRS];
+    let mut flags = [0u16; MOST_SETS];
+    let mut owners = [0u8; MOST_PATHS];
+    let mut entries = [0u8; AREA];
     let read = book::load(bytes, &mut weights, &mut flags, &mut owners, &mut entries);
     match read {
         Answer::Refused(r) => Reported::Refused(r, rec),
@@ -77,7 +81,7 @@ pub fn report_failed(
 
 // The same in a book that has been read.
 fn failed_in(
-    weights: &[u32; 4096],
+    weights: &[u32; PAIRS],
     vertices: usize,
     rec: Record,
     paths: &mut [u8],
@@ -104,7 +108,7 @@ fn failed_in(
 
 // The path becomes the last known one, and there is a plan anew.
 fn replan(
-    weights: &[u32; 4096],
+    weights: &[u32; PAIRS],
     vertices: usize,
     rec: Record,
     paths: &mut [u8],

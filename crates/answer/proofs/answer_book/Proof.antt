@@ -6,8 +6,7 @@ use mathlib.Core.List.{List}
 use native.Mathlib.Omega.{arith}
 use Prim.Native.Nat.{ℕ, _≤_}
 use lib.ListN.{length, replicate, length-replicate}
-use Rattle.rules.specs.Area.{areaSize}
-use Rattle.rules.specs.Checking.{longest}
+use Rattle.limits.specs.Limits.{areaSize, longest}
 use Rattle.answer.specs.Text.{refusalText, outcomeText}
 use Rattle.answer.specs.AnswerLaws.{bind-refused, plan-answered, plan-standing}
 use Rattle.answer.proofs.answer_book.Statement.{statement}

@@ -7,7 +7,8 @@ use borrow.Author.Tests.{not-true, not-false}
 use denote.Ref.{now}
 use lib.ListN.{length, take, drop}
 use lib.Seq.{paste}
-use Rattle.rules.specs.Area.{areaSize, written, spelled, isEntry}
+use Rattle.rules.specs.Area.{written, spelled, isEntry}
+use Rattle.limits.specs.Limits.{areaSize}
 use Rattle.rules.proofs.Validity.{Judged, too-many, started, clean-length, finished, not-taken, byte-fits, copied, full-length, repeated, judged-next}
 use borrow.Author.Needs.{needs}
 use Rattle.rules.proofs.area.valid.Statement.{statement}

@@ -9,7 +9,7 @@ use denote.Ref.{now}
 use lib.ListN.{length, getD, replicate}
 use Rattle.book.specs.Book.{RuleSet}
 use Rattle.rules.specs.Binding.{covers}
-use Rattle.rules.specs.Area.{areaSize}
+use Rattle.limits.specs.Limits.{areaSize}
 use Rattle.rules.specs.Listed.{Listed}
 use Rattle.rules.proofs.Parts.{paste-kept}
 use Rattle.rules.proofs.Gathered.{Gathered, started, finished, passed-over, known-already, added}

@@ -1,6 +1,6 @@
 -- `search::product::is_open` meets its contract. Assumes nothing.
 use borrow.Author.Tests.{eq-eqb, ne-eqb}
-use Rattle.book.specs.Tables.{noArc}
+use Rattle.limits.specs.Limits.{noArc}
 use Rattle.search.proofs.product.is_open.Statement.{statement}
 use Rattle.search.proofs.product.is_open.Tie as tie
 

@@ -5,7 +5,7 @@ use denote.Ref.{now}
 use mathlib.Core.Path.{_≡_, sym, ap, subst, _∙_}
 use lib.Seq.{paste}
 use lib.ListN.{drop}
-use Rattle.rules.specs.Area.{areaSize}
+use Rattle.limits.specs.Limits.{areaSize}
 use Rattle.rules.specs.Operations.{binding, areaAfter}
 use Rattle.planner.specs.Planning.{Planning}
 use Rattle.trial_record.specs.declared.Record.{Record}

@@ -7,7 +7,8 @@ use mathlib.Core.Option.{none}
 use lib.ListN.{drop}
 use Prim.Native.Nat.{_+_}
 use Rattle.book.specs.Book.{Book}
-use Rattle.rules.specs.Area.{areaSize, written, spelled}
+use Rattle.rules.specs.Area.{written, spelled}
+use Rattle.limits.specs.Limits.{areaSize}
 use Rattle.planner.specs.Planning.{PlanningIn}
 use Rattle.trial_record.specs.declared.Record.{Record}
 use Rattle.trials.specs.declared.Reported.{Reported}
