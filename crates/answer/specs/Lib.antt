@@ -4,4 +4,3 @@ pub mod Answer
 pub mod TextLaws
 pub mod AnswerLaws
 pub mod LongInput
-pub mod Examples

@@ -7,12 +7,9 @@ pub mod Cost
 pub mod Greedy
 pub mod Short
 pub mod Chosen
-pub mod Certificate
-pub mod Sums
 pub mod Area
 pub mod Built
 pub mod Words
 pub mod BuiltLaws
 pub mod Progress
 pub mod Rows
-pub mod WrongRoad

@@ -6,6 +6,5 @@ pub mod RefusalLaws
 pub mod BookLaws
 pub mod TableLaws
 pub mod EntryLaws
-pub mod Examples
 pub mod BookSize
 pub mod LongBook

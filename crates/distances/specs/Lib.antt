@@ -6,10 +6,8 @@ pub mod Pass
 pub mod Settled
 pub mod Shorten
 pub mod Bellman
-pub mod Certificate
 pub mod Reverse
 pub mod Pack
-pub mod Example
 pub mod Columns
 pub mod Ready
 pub mod Chain

@@ -2,4 +2,3 @@ pub mod Listing
 pub mod Standing
 pub mod StandingLaws
 pub mod SameBook
-pub mod Examples

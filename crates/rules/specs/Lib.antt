@@ -2,7 +2,6 @@ pub mod Binding
 pub mod Area
 pub mod Checking
 pub mod Operations
-pub mod Examples
 pub mod Sets
 pub mod AreaLaws
 pub mod Listed

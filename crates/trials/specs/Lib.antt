@@ -13,5 +13,3 @@ pub mod Invariant
 pub mod Claim
 pub mod Oracle
 pub mod Whole
-pub mod Sums
-pub mod Examples

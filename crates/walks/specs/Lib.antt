@@ -4,4 +4,3 @@ pub mod Avoid
 pub mod Order
 pub mod Best
 pub mod Feasible
-pub mod BookA

@@ -4,17 +4,17 @@ use mathlib.Core.Path.{_≡_, refl}
 use mathlib.Core.List.{List, [], _∷_, _++_}
 use lib.ListN.{length, drop}
 use Rattle.book.specs.declared.Refusal.the-variants.{Value, Repeated}
-use Rattle.book.specs.Examples.{bytesA, bookA, book-A}
+use Rattle.examples.specs.Books.{bytesA, bookA, book-A}
 use Rattle.book.specs.Reading.{accepted, refused}
 use Rattle.rules.specs.Operations.{Binding, binding, areaAfter}
 use Rattle.planner.specs.declared.Outcome.{Outcome}
 use Rattle.planner.specs.declared.Outcome.the-variants.{Walk}
 use Rattle.limits.specs.Limits.{longest}
 use Rattle.planner.specs.Planning.{PlanningOf}
-use Rattle.planner.specs.Sums.{sums}
+use Rattle.examples.specs.Plans.{sums}
 use Rattle.listed.specs.declared.Arc.{Arc}
 use Rattle.listed.specs.Listing.{items, listing}
 use Rattle.listed.specs.SameBook.{arcsOf, from-book}
 
 abbrev arc : ℕ → ℕ → ℕ → Arc
 arc tail head weight = record { tail = tail; head = head; weight = weight }

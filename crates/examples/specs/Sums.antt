@@ -17,26 +17,26 @@ use Rattle.book.specs.Refusal.{told, refusalOf, firstFailure}
 use Rattle.book.specs.Book.{Book, WellFormed, allPaths, graph, simple, names}
 use Rattle.book.specs.BookLaws.{reading-is-book}
 use Rattle.book.specs.Reading.{accepted, reading, answer}
-use Rattle.book.specs.Examples.{bytesA, bookA, book-A, bytesWays, bookWays, book-ways, bytesShortcut, bookShortcut, book-shortcut, count-64, count-65, no-body}
+use Rattle.examples.specs.Books.{bytesA, bookA, book-A, bytesWays, bookWays, book-ways, bytesShortcut, bookShortcut, book-shortcut, count-64, count-65, no-body}
 use Rattle.automaton.specs.Chosen.{chosen}
-use Rattle.automaton.specs.Sums.{marks-3, named-123, named-13}
+use Rattle.examples.specs.Walks.{marks-3, named-123, named-13}
 use Rattle.rules.specs.Binding.{covers, bound, known, once}
 use Rattle.limits.specs.Limits.{areaSize, longest}
 use Rattle.rules.specs.Operations.{Binding, outcome, bindingOf, binding, areaAfter}
 use Rattle.planner.specs.declared.Outcome.{Outcome}
 use Rattle.planner.specs.declared.Outcome.the-variants.{Walk, Nothing}
 use Rattle.planner.specs.Planning.{Planning}
-use Rattle.planner.specs.Sums.{Gives, sums as planning}
+use Rattle.examples.specs.Plans.{Gives, sums as planning}
 use Rattle.trials.specs.declared.Begun.{Begun}
 use Rattle.trials.specs.declared.Reported.{Reported}
 use Rattle.trials.specs.Trials.{Report, failed, State, pathArea, trials, takes, Valid, isForbiddenSet, isRecord, isValid, beginRefusal, refusal, Plan, Planner, holding, unless, step, after, run}
 use Rattle.trials.specs.Reports.{reportsIn, reportsOf}
 use Rattle.trials.specs.Operations.{Left, left, begunAs, firstState, beginningOf, beginning, reportedAs, reportingOf, reporting, replayingOf, replaying}
 use Rattle.trials.specs.Tests.{isForbiddenSet→, isValid→Valid}
 use Rattle.trials.specs.Plans.{plan-best, plan-none}
 use Rattle.trials.specs.Replanning.{chosen-planner}
 use Rattle.trials.specs.Accepted.{oracleTests, only-oracle}
 use Rattle.trials.specs.OperationLaws.{same-step}
 
 -- ---- what the sums say
 abbrev pub ForLent : (List ℕ → List ℕ → Type 0) → Type 0

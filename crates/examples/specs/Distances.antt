@@ -3,10 +3,10 @@
 use Prim.Native.Nat.{ℕ}
 use mathlib.Core.Path.{_≡_, refl}
 use mathlib.Core.List.{List, [], _∷_}
 use Rattle.distances.specs.Edge.{Edge, edges}
 use Rattle.distances.specs.Table.{Least, inf, pass, passes}
-use Rattle.distances.specs.Certificate.{certificate}
+use Rattle.examples.specs.LeastTable.{certificate}
 use Rattle.distances.specs.Pack.{pack}
 
 abbrev graph : List Edge
 graph = edges (0 ∷ 1 ∷ 2 ∷ 0 ∷ 3 ∷ []) (1 ∷ 2 ∷ 3 ∷ 2 ∷ 4 ∷ []) (pack 1 1 ∷ pack 1 1 ∷ pack 1 1 ∷ pack 2 1 ∷ pack 7 1 ∷ [])

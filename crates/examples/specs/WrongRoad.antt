@@ -15,8 +15,8 @@ use Rattle.walks.specs.Graph.{isSome, isArc}
 use Rattle.walks.specs.Walk.{weightOf, hops, hops-length}
 use Rattle.walks.specs.Avoid.{avoids, Avoids→avoids}
 use Rattle.walks.specs.Best.{Feasible, Best, Best·unique}
-use Rattle.walks.specs.BookA.{bookA, forbiddenA}
-use Rattle.automaton.specs.Sums.{best-to-1, best-to-2}
+use Rattle.examples.specs.GraphA.{bookA, forbiddenA}
+use Rattle.examples.specs.Walks.{best-to-1, best-to-2}
 
 -- arcs to 3 come from 1 and 2 alone
 into-3 : (u : ℕ) → T (isArc bookA u 3) → (u ≡ 1) ⊎ (u ≡ 2)

@@ -8,9 +8,9 @@ use Rattle.walks.specs.Graph.{Graph, fromArcs}
 use Rattle.walks.specs.Walk.{weightOf, hops}
 use Rattle.walks.specs.Avoid.{Long}
 use Rattle.walks.specs.Best.{Best, None, Best·stay}
-use Rattle.walks.specs.BookA.{arc, bookA, forbiddenA, bestA}
+use Rattle.examples.specs.GraphA.{arc, bookA, forbiddenA, bestA}
 use Rattle.automaton.specs.Automaton.{state, go, blocked}
-use Rattle.automaton.specs.Certificate.{Entry, certified-best, certified-none}
+use Rattle.examples.specs.Certificate.{Entry, certified-best, certified-none}
 
 -- The best walk is w, at weight n and k hops (01: what planning answers).
 pub record Plan (g : Graph) (F : List (List ℕ)) (s t : ℕ) (w : List ℕ) (n k : ℕ) : Type 0 where

@@ -5,15 +5,15 @@ use mathlib.Core.Path.{_≡_, refl}
 use lib.ListN.{set, replicate}
 use Rattle.book.specs.declared.Refusal.the-variants.{Invalid, NotAWalk}
 use Rattle.book.specs.Book.{allPaths, names, simple}
-use Rattle.book.specs.Examples.{bytesA}
+use Rattle.examples.specs.Books.{bytesA}
 use Rattle.book.specs.Reading.{reading, fields, addPath}
 use Rattle.book.specs.Tables.{entries}
 use Rattle.rules.specs.declared.Bound.the-variants.{Known}
 use Rattle.rules.specs.declared.Checked.the-variants.{Clear, Occurs, Refused}
 use Rattle.rules.specs.Binding.{covers, bound, once}
 use Rattle.rules.specs.Area.{written, blocks}
 use Rattle.rules.specs.Checking.{firstFrom, checkFrom}
 use Rattle.rules.specs.Operations.{binding, answer, areaAfter, checking}
 
 -- An area of 2,304 bytes, with one byte after them.
 abbrev lent : List ℕ

@@ -3,12 +3,12 @@ use Prim.Native.Nat.{ℕ}
 use mathlib.Core.Path.{_≡_, refl, sym, subst}
 use mathlib.Core.List.{List, [], _∷_}
 use mathlib.Core.Logic.{inl, inr}
-use Rattle.automaton.specs.Sums.{marks-3, back}
-use Rattle.book.specs.Examples.{bytesA, book-A, count-65}
+use Rattle.examples.specs.Walks.{marks-3, back}
+use Rattle.examples.specs.Books.{bytesA, book-A, count-65}
 use Rattle.rules.specs.Binding.{covers, bound}
 use Rattle.answer.specs.Text.{digits, followed}
 use Rattle.answer.specs.Answer.{AnsweredOf, Answered}
 use Rattle.answer.specs.AnswerLaws.{Answered-unique}
 
 -- The input s gets this text and no other.
 abbrev Prints : List ℕ → List ℕ → Type 0

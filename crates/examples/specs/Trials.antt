@@ -11,16 +11,16 @@ use Rattle.walks.specs.Feasible.{isFeasible}
 use Rattle.book.specs.declared.Refusal.the-variants.{Ended, NotStanding}
 use Rattle.book.specs.Refusal.{firstFailure}
 use Rattle.book.specs.Book.{simple, names}
-use Rattle.book.specs.Examples.{bookA}
+use Rattle.examples.specs.Books.{bookA}
 use Rattle.rules.specs.Binding.{covers, bound, once}
 use Rattle.limits.specs.Limits.{areaSize, longest}
 use Rattle.trials.specs.Trials.{passed, failed, State, Valid, Begin, EachAccepted, run, refusal, takes, isValid, isForbiddenSet, isRecord}
 use Rattle.trials.specs.Tests.{isForbiddenSet→, isValid→Valid}
 use Rattle.trials.specs.Accepted.{oracleTests, only-oracle}
 use Rattle.trials.specs.Lacking.{lacking}
 use Rattle.trials.specs.Replanning.{trialsOf}
 use Rattle.trials.specs.Oracle.{OracleSet, TrueOracle, TrueTo}
-use Rattle.trials.specs.Sums.{graphA, begun-3, after-13, well-A, opens, first-is, run-123, long-after, valid-3}
+use Rattle.examples.specs.Sums.{graphA, begun-3, after-13, well-A, opens, first-is, run-123, long-after, valid-3}
 
 -- the paths of the oracle
 abbrev oracles : List (List ℕ)

@@ -11,19 +11,19 @@ use Rattle.walks.specs.Best.{None, None·mono}
 use Rattle.book.specs.declared.Refusal.{Refusal}
 use Rattle.book.specs.Book.{Book, All, IsPath, WellFormed, blank, graph}
 use Rattle.book.specs.BookLaws.{reading-is-book}
-use Rattle.book.specs.Examples.{bytesA, bookA, book-A, bytesWays, bookWays, book-ways, bytesShortcut, bookShortcut, book-shortcut}
+use Rattle.examples.specs.Books.{bytesA, bookA, book-A, bytesWays, bookWays, book-ways, bytesShortcut, bookShortcut, book-shortcut}
 use Rattle.book.specs.Reading.{accepted, reading, kept}
 use Rattle.book.specs.Refusal.{refusalOf}
-use Rattle.automaton.specs.Sums.{Plan, marks-0, marks-1, marks-2, marks-3, back, stay, lower-vertex, fewer-hops}
+use Rattle.examples.specs.Walks.{Plan, marks-0, marks-1, marks-2, marks-3, back, stay, lower-vertex, fewer-hops}
 use Rattle.rules.specs.Binding.{covers, bound, known}
 use Rattle.rules.specs.BindingLaws.{known-paths}
 use Rattle.rules.specs.Operations.{Binding, binding, areaAfter}
 use Rattle.rules.specs.Laws.{bind-accepted}
 use Rattle.planner.specs.declared.Outcome.{Outcome}
 use Rattle.planner.specs.declared.Outcome.the-variants.{Walk, Nothing}
 use Rattle.limits.specs.Limits.{longest}
 use Rattle.planner.specs.Planning.{Planned, Planning}
 use Rattle.planner.specs.RuleSets.{refusal, decided, planned-known, planned-same}
 
 -- For every area that was bound for a batch and every area of 1,600 bytes or more for the walk, planning answers r, with w in the area's front.
 abbrev pub Gives : List ℕ → ℕ → ℕ → ℕ → Outcome → List ℕ → Type 0

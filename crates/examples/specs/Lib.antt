@@ -1,0 +1,15 @@
+-- Worked examples, each by computation: none is cited by another crate. Sums has 01's starred sums; the others say what the definitions and the
+-- operations make of small books, or serve these.
+pub mod GraphA
+pub mod Certificate
+pub mod Walks
+pub mod WrongRoad
+pub mod LeastTable
+pub mod Distances
+pub mod Books
+pub mod Rules
+pub mod Plans
+pub mod Listed
+pub mod Sums
+pub mod Trials
+pub mod Printed
