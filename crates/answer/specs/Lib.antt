@@ -3,4 +3,3 @@ pub mod Writing
 pub mod Answer
 pub mod TextLaws
 pub mod AnswerLaws
-pub mod LongInput

@@ -13,7 +13,7 @@ use Rattle.book.specs.declared.Counts.{Counts}
 use Rattle.book.specs.declared.Kind.{Kind}
 use Rattle.book.specs.declared.Kind.the-variants.{VertexCount, Arc, RuleSet, Path}
 use Rattle.book.specs.Refusal.{firstFailure}
-use Rattle.book.specs.RefusalLaws.{all-hold, first-of-append, first-kept}
+use Rattle.book.specs.RefusalLaws.{none→hold, first-of-append, first-kept}
 use Rattle.book.specs.Book.{Book, counts}
 use Rattle.book.specs.BookLaws.{paths-set}
 use Rattle.book.specs.Reading.{refused, verdict, kindAt, lengthAt, endAt, flagsAt, pathAt, follows, fits, framing, content, framed, extended, outcome, taken, kept, field}
@@ -37,7 +37,7 @@ pub record Framed (s : List ℕ) (at : ℕ) (c : Counts) (k : Kind) : Type 0 whe
 module _ (s : List ℕ) (at : ℕ) (c : Counts) where
   pub framed-passed : (d : Counts) (k : Kind) → framed s at c ≡ Read d → k ≡ kindAt s at → Framed s at c k
   framed-passed d k e is =
-      let held = all-hold (framing s (c .vertices) (c .sets) at) (verdict-read _ c d e) in
+      let held = none→hold (framing s (c .vertices) (c .sets) at) (verdict-read _ c d e) in
       subst (Framed s at c) (sym is) (record { order = held .1 .0; fit = held .1 .1 .0; whole = leb-true _ _ (held .1 .1 .1 .0) })
 
   module _ (b : Book) (so-far : c ≡ counts b) where

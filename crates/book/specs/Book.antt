@@ -6,6 +6,7 @@ use mathlib.Core.Bool.{Bool, true, false, not, _&&_, _||_}
 use mathlib.Core.List.{List, [], _∷_, _++_}
 use lib.ListN.{length}
 use lib.Dec.{eqb, leb, ltb}
+use Rattle.limits.specs.Limits.{mostVertices, heaviest, mostSets, mostPaths}
 use Rattle.walks.specs.Graph.{Graph, Arc, isSome, weightIn, fromArcs}
 use Rattle.book.specs.declared.Counts.{Counts}
 
@@ -52,9 +53,16 @@ unfoldable pub simple : ℕ → List ℕ → Bool
 simple count [] = true
 simple count (v ∷ vs) = ltb v count && not (names vs v) && simple count vs
 
--- two different vertices below the count, and a weight of at most 1,000,000
+-- 01: a run that the book's rules take, in a book with `count` vertices: 2 to 8 vertices below the count, none named twice
+abbrev pub pathLength : ℕ → Bool
+pathLength n = leb 2 n && leb n 8
+
+unfoldable pub isPath : ℕ → List ℕ → Bool
+isPath count p = pathLength (length p) && simple count p
+
+-- two different vertices below the count, and a weight of at most 1,000,000 (01: litres)
 abbrev pub properArc : ℕ → Arc → Bool
-properArc count a = ltb (a .tail) count && ltb (a .head) count && not (eqb (a .tail) (a .head)) && leb (a .weight) 1000000
+properArc count a = ltb (a .tail) count && ltb (a .head) count && not (eqb (a .tail) (a .head)) && leb (a .weight) heaviest
 
 -- P of each element
 abbrev pub All : {A : Type 0} → (A → Type 0) → List A → Type 0
@@ -66,7 +74,7 @@ pub record IsArc (count : ℕ) (a : Arc) : Type 0 where
   pub tail-below : a .tail < count
   pub head-below : a .head < count
   pub different : a .tail ≢ a .head
-  pub light : a .weight ≤ 1000000
+  pub light : a .weight ≤ heaviest
 
 -- no pair twice
 abbrev pub PairsOnce : List Arc → Type 0
@@ -87,10 +95,10 @@ pub record IsPath (count : ℕ) (p : List ℕ) : Type 0 where
 
 -- what holds of every book that is read, and of what has been read of one
 pub record WellFormed (b : Book) : Type 0 where
-  pub few-vertices : b .count ≤ 64
+  pub few-vertices : b .count ≤ mostVertices
   pub counted : 1 ≤ length (b .sets) → 1 ≤ b .count
   pub arcs-proper : All (IsArc (b .count)) (b .arcs)
   pub pairs-once : PairsOnce (b .arcs)
-  pub few-sets : length (b .sets) ≤ 16
-  pub few-paths : length (allPaths (b .sets)) ≤ 256
+  pub few-sets : length (b .sets) ≤ mostSets
+  pub few-paths : length (allPaths (b .sets)) ≤ mostPaths
   pub paths-proper : All (IsPath (b .count)) (allPaths (b .sets))

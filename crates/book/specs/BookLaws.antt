@@ -7,7 +7,7 @@ use mathlib.Core.List.{List, [], _∷_, _++_, append-assoc, append-nil}
 use mathlib.Core.Option.{Option, none, some}
 use native.Mathlib.Nat.{zero-add, suc-add}
 use native.Mathlib.Omega.{arith}
-use borrow.Author.Tests.{ltb-true, leb-true, eqb-true, eqb-false, eq-eqb, lt-ltb, le-ltb, not-true}
+use borrow.Author.Tests.{ltb-true, leb-true, le-leb, eqb-true, eqb-false, eq-eqb, lt-ltb, le-ltb, not-true}
 use lib.Dec.{eqb, leb, ltb}
 use lib.ListN.{length, length-append}
 use lib.Seq.{length-slice}
@@ -17,10 +17,10 @@ use Rattle.book.specs.declared.Counts.{Counts}
 use Rattle.book.specs.declared.Kind.{Kind}
 use Rattle.book.specs.declared.Kind.the-variants.{VertexCount, Path, Unknown}
 use Rattle.book.specs.Refusal.{Test, firstFailure}
-use Rattle.book.specs.RefusalLaws.{all-hold}
+use Rattle.book.specs.RefusalLaws.{none→hold}
 use Rattle.lists.specs.Test.{and-true, or-false, either}
 use Rattle.walks.specs.Graph.{Arc, isSome, weightIn}
-use Rattle.book.specs.Book.{RuleSet, Book, blank, allPaths, counts, given, properArc, names, simple, All, IsArc, IsPath, PairsOnce, VerticesOnce, WellFormed}
+use Rattle.book.specs.Book.{RuleSet, Book, blank, allPaths, counts, given, properArc, names, simple, isPath, All, IsArc, IsPath, PairsOnce, VerticesOnce, WellFormed}
 use Rattle.book.specs.Reading.{Reading, accepted, refused, answer, kindAt, lengthAt, endAt, countAt, arcAt, flagsAt, pathAt, follows, fits, proper, fresh, room, framing, content, extended, addPath, outcome, field, fields, andThen, reading}
 
 -- ---- lists
@@ -58,6 +58,22 @@ simple-once count [] e = tt
 simple-once count (v ∷ vs) e =
     let both = and-true (ltb v count && not (names vs v)) (simple count vs) e in
     (not-true _ (and-true (ltb v count) _ (both .0) .1), simple-once count vs (both .1))
+
+path-simple : (count : ℕ) (p : List ℕ) → All (λ v. v < count) p → VerticesOnce p → simple count p ≡ true
+unfolding simple
+path-simple count [] below once = refl
+path-simple count (v ∷ vs) below once = rw (lt-ltb v count (below .0), once .0, path-simple count vs (below .1) (once .1))
+
+pub isPath→IsPath : (count : ℕ) (p : List ℕ) → isPath count p ≡ true → IsPath count p
+unfolding isPath
+isPath→IsPath count p e =
+    let (size, vertices) = and-true (leb 2 (length p) && leb (length p) 8) (simple count p) e in
+    let (low, high) = and-true (leb 2 (length p)) (leb (length p) 8) size in
+    record { two = leb-true _ _ low; eight = leb-true _ _ high; below = simple-below count p vertices; once = simple-once count p vertices }
+
+pub IsPath→isPath : (count : ℕ) (p : List ℕ) → IsPath count p → isPath count p ≡ true
+unfolding isPath
+IsPath→isPath count p h = rw (le-leb _ _ (h .two), le-leb _ _ (h .eight), path-simple count p (h .below) (h .once))
 
 -- ---- one more arc
 pub given-cons : (a : Arc) (xs : List Arc) (t h : ℕ) → given (a ∷ xs) t h ≡ (eqb (a .tail) t && eqb (a .head) h || given xs t h)
@@ -136,7 +152,7 @@ module _ (s : List ℕ) (b : Book) (at : ℕ) (b′ : Book) (e : field s b at �
 
   pub field-passed : Passed s b at
   field-passed =
-      let held = all-hold (all-tests s b at) (outcome-accepted (firstFailure (all-tests s b at)) _ b′ e .0) in
+      let held = none→hold (all-tests s b at) (outcome-accepted (firstFailure (all-tests s b at)) _ b′ e .0) in
       record {
         order = held .1 .0;
         fit = held .1 .1 .0;

@@ -6,5 +6,4 @@ pub mod RefusalLaws
 pub mod BookLaws
 pub mod TableLaws
 pub mod EntryLaws
-pub mod BookSize
-pub mod LongBook
+pub mod Loaded

@@ -7,15 +7,15 @@ use lib.ListN.{length, getD}
 use lib.Seq.{slice}
 use lib.Dec.{eqb, leb, ltb}
 use Rattle.book.specs.declared.Refusal.{Refusal}
-use Rattle.book.specs.declared.Refusal.the-variants.{Truncated, Tag, Length, Value, Repeated, TooMany}
 use Rattle.book.specs.declared.Answer.{Answer}
 use Rattle.book.specs.declared.Answer.the-variants.{Read, Refused}
 use Rattle.book.specs.declared.Counts.{Counts}
 use Rattle.book.specs.declared.Kind.{Kind}
 use Rattle.book.specs.declared.Kind.the-variants.{VertexCount, Path, Unknown}
-use Rattle.book.specs.Refusal.{Test, firstFailure}
+use Rattle.book.specs.Refusal.{Test, testAt, numbered, firstFailure, refusalBy}
+use Rattle.limits.specs.Limits.{mostVertices, mostSets, mostPaths}
 use Rattle.walks.specs.Graph.{Arc}
-use Rattle.book.specs.Book.{RuleSet, Book, blank, allPaths, counts, given, properArc, simple}
+use Rattle.book.specs.Book.{RuleSet, Book, blank, allPaths, counts, given, properArc, pathLength, simple}
 
 -- A byte string is a book, or is refused.
 pub data Reading : Type 0 where
@@ -80,12 +80,12 @@ abbrev pub fits : Kind → ℕ → Bool
 fits VertexCount n = eqb n 1
 fits Kind.Arc n = eqb n 6
 fits Kind.RuleSet n = eqb n 2
-fits Path n = leb 2 n && leb n 8
+fits Path n = pathLength n
 fits Unknown n = false
 
 -- 4: the value is within its limits
 abbrev pub proper : Kind → List ℕ → Book → ℕ → Bool
-proper VertexCount s b at = leb 1 (countAt s at) && leb (countAt s at) 64
+proper VertexCount s b at = leb 1 (countAt s at) && leb (countAt s at) mostVertices
 proper Kind.Arc s b at = properArc (b .count) (arcAt s at)
 proper Kind.RuleSet s b at = true
 proper Path s b at = simple (b .count) (pathAt s at)
@@ -103,24 +103,24 @@ fresh Unknown s b at = true
 abbrev pub room : Kind → Book → Bool
 room VertexCount b = true
 room Kind.Arc b = true
-room Kind.RuleSet b = ltb (length (b .sets)) 16
-room Path b = ltb (length (allPaths (b .sets))) 256
+room Kind.RuleSet b = ltb (length (b .sets)) mostSets
+room Path b = ltb (length (allPaths (b .sets))) mostPaths
 room Unknown b = true
 
 -- the tests of a field, in 01's order: 1 for the head, 2, 3, 1 for the body; then 4, 5, 6
 abbrev pub framing : List ℕ → ℕ → ℕ → ℕ → List Test
 framing s vertices sets at =
-    record { holds = leb (at + 3) (length s); refusal = Truncated at }
-    ∷ record { holds = follows vertices sets (kindAt s at); refusal = Tag at }
-    ∷ record { holds = fits (kindAt s at) (lengthAt s at); refusal = Length at }
-    ∷ record { holds = leb (endAt s at) (length s); refusal = Truncated at }
+    testAt at 1 (leb (at + 3) (length s))
+    ∷ testAt at 2 (follows vertices sets (kindAt s at))
+    ∷ testAt at 3 (fits (kindAt s at) (lengthAt s at))
+    ∷ testAt at 1 (leb (endAt s at) (length s))
     ∷ []
 
 abbrev pub content : Kind → List ℕ → Book → ℕ → List Test
 content kind s b at =
-    record { holds = proper kind s b at; refusal = Value at }
-    ∷ record { holds = fresh kind s b at; refusal = Repeated at }
-    ∷ record { holds = room kind b; refusal = TooMany at }
+    testAt at 4 (proper kind s b at)
+    ∷ testAt at 5 (fresh kind s b at)
+    ∷ testAt at 6 (room kind b)
     ∷ []
 
 -- a path belongs to the last rule set
@@ -172,5 +172,14 @@ fields (suc turns) s b at =
 
 -- The empty book is refused as a field's head that is cut off.
 unfoldable pub reading : List ℕ → Reading
-reading [] = refused (Truncated 0)
+reading [] = refused (numbered 1 0)
 reading (x ∷ s) = fields (length (x ∷ s)) (x ∷ s) blank 0
+
+-- What an operation on a book is refused for: the book's refusal, or the first of the tests that it makes in the book that fails.
+abbrev pub refusalOf : Reading → (Book → List Test) → Option Refusal
+refusalOf (accepted b) tests = refusalBy (tests b)
+refusalOf (refused r) tests = some r
+
+-- The book that was read; the blank one where the bytes are refused.
+abbrev pub bookIn : Reading → Book
+bookIn r = kept blank r

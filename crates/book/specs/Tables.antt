@@ -3,21 +3,21 @@ use Prim.Native.Nat.{ℕ, suc, _+_, _-_, _*_}
 use mathlib.Core.Path.{_≡_}
 use mathlib.Core.List.{List, [], _∷_, _++_, map}
 use lib.ListN.{length, set, replicate}
-use Rattle.limits.specs.Limits.{noArc}
+use Rattle.limits.specs.Limits.{mostVertices, pairs, mostSets, mostPaths, areaSize, noArc}
 use Rattle.walks.specs.Graph.{Arc}
-use Rattle.book.specs.Book.{RuleSet, Book, allPaths}
+use Rattle.book.specs.Book.{RuleSet, Book, WellFormed, allPaths}
 
 -- a list with zeros up to n elements
 abbrev pub padded : ℕ → List ℕ → List ℕ
 padded n l = l ++ replicate (n - length l) 0
 
--- the weight of the arc from u to v stands at u * 64 + v
+-- the weight of the arc from u to v stands at u * 64 + v, in rising order of u, then v
 unfoldable pub entered : List ℕ → List Arc → List ℕ
 entered t [] = t
-entered t (a ∷ rest) = entered (set t (a .tail * 64 + a .head) (a .weight)) rest
+entered t (a ∷ rest) = entered (set t (a .tail * mostVertices + a .head) (a .weight)) rest
 
 abbrev pub weightTable : List Arc → List ℕ
-weightTable arcs = entered (replicate 4096 noArc) arcs
+weightTable arcs = entered (replicate pairs noArc) arcs
 
 -- the flags of each rule set
 abbrev pub flagsOf : List RuleSet → List ℕ
@@ -37,13 +37,13 @@ entries [] = []
 entries (p ∷ ps) = entry p ++ entries ps
 
 abbrev pub flagTable : List RuleSet → List ℕ
-flagTable ss = padded 16 (flagsOf ss)
+flagTable ss = padded mostSets (flagsOf ss)
 
 abbrev pub ownerTable : List RuleSet → List ℕ
-ownerTable ss = padded 256 (ownersFrom 0 ss)
+ownerTable ss = padded mostPaths (ownersFrom 0 ss)
 
 abbrev pub pathTable : List RuleSet → List ℕ
-pathTable ss = padded 2304 (entries (allPaths ss))
+pathTable ss = padded areaSize (entries (allPaths ss))
 
 -- the tables that stand for a book
 pub record Tables (b : Book) (weights flags owners paths : List ℕ) : Type 0 where
@@ -52,9 +52,23 @@ pub record Tables (b : Book) (weights flags owners paths : List ℕ) : Type 0 wh
   pub owners-are : owners ≡ ownerTable (b .sets)
   pub paths-are : paths ≡ pathTable (b .sets)
 
+-- The count and the table of weights are those of the well-formed book b ...
+pub record IsGraph (b : Book) (vertices : ℕ) (weights : List ℕ) : Type 0 where
+  pub well : WellFormed b
+  pub vertices-are : vertices ≡ b .count
+  pub weights-are : weights ≡ weightTable (b .arcs)
+
+-- ... and the number of paths and the tables of its rule sets.
+pub record IsSets (b : Book) (paths : ℕ) (flags owners entries : List ℕ) : Type 0 where
+  pub well : WellFormed b
+  pub counted : paths ≡ length (allPaths (b .sets))
+  pub flags-are : flags ≡ flagTable (b .sets)
+  pub owners-are : owners ≡ ownerTable (b .sets)
+  pub paths-are : entries ≡ pathTable (b .sets)
+
 -- the tables that stand for nothing yet
 pub record Blank (weights flags owners paths : List ℕ) : Type 0 where
-  pub no-arcs : weights ≡ replicate 4096 noArc
-  pub no-flags : flags ≡ replicate 16 0
-  pub no-owners : owners ≡ replicate 256 0
-  pub no-paths : paths ≡ replicate 2304 0
+  pub no-arcs : weights ≡ replicate pairs noArc
+  pub no-flags : flags ≡ replicate mostSets 0
+  pub no-owners : owners ≡ replicate mostPaths 0
+  pub no-paths : paths ≡ replicate areaSize 0

@@ -3,7 +3,8 @@ ghost use mathlib.Core.Path.{_≡_};
 ghost use Prim.Native.Nat.{_+_, _≤_, _<_};
 ghost use lib.ListN.{length};
 ghost use lib.Seq.{slice, paste};
-ghost use Rattle.book.specs.Book.{Book, WellFormed, names, properArc};
+ghost use Rattle.limits.specs.Limits.{mostVertices, areaSize};
+ghost use Rattle.book.specs.Book.{Book, WellFormed, names, properArc, isPath};
 ghost use Rattle.book.specs.Book.{counts as Book·counts, simple as Book·simple};
 ghost use Rattle.book.specs.Reading.{answer, u16At, u32At, endAt, lengthAt, kindOf, framed, taken, kept};
 ghost use Rattle.book.specs.Reading.{field as Reading·field, fits as Reading·fits, follows as Reading·follows};
@@ -14,8 +15,11 @@ use crate::Counts;
 use crate::Kind;
 use crate::Refusal;
 use limits::AREA;
+use limits::ENTRY;
+use limits::HEAVIEST;
 use limits::MOST_PATHS;
 use limits::MOST_SETS;
+use limits::MOST_VERTICES;
 use limits::NO_ARC;
 use limits::PAIRS;
 use lists::wide;
@@ -110,7 +114,7 @@ fn vertex_count(bytes: &[u8], at: usize, counts: Counts) -> Answer
     if n < 1 {
         return Answer::Refused(Refusal::Value(at));
     }
-    if 64 < n {
+    if MOST_VERTICES < n {
         return Answer::Refused(Refusal::Value(at));
     }
     Answer::Read(Counts {
@@ -133,12 +137,12 @@ pub fn proper_arc(vertices: usize, tail: usize, head: usize, weight: usize) -> b
     if tail == head {
         return false;
     }
-    weight <= 1_000_000
+    weight <= HEAVIEST
 }
 
 fn arc(bytes: &[u8], at: usize, counts: Counts, weights: &mut [u32; PAIRS]) -> Answer
     requires { ⌜ at + 9 ≤ length (now bytes) ⌝ }
-    requires { ⌜ counts .vertices ≤ 64 ⌝ }
+    requires { ⌜ counts .vertices ≤ mostVertices ⌝ }
     requires { ⌜ counts .arcs ≤ at ⌝ }
     ensures { λ r. ⌜ ((b : Book) → counts ≡ Book·counts b → WellFormed b → now (weights .entry) ≡ weightTable (b .arcs) → (r ≡ answer (taken Arc (now (bytes .entry)) b at)) × (now (weights .exit) ≡ weightTable (kept b (taken Arc (now (bytes .entry)) b at) .arcs))) ⌝ }
 {
@@ -148,7 +152,7 @@ fn arc(bytes: &[u8], at: usize, counts: Counts, weights: &mut [u32; PAIRS]) -> A
     if !proper_arc(counts.vertices, tail, head, weight) {
         return Answer::Refused(Refusal::Value(at));
     }
-    let pair = tail * 64 + head;
+    let pair = tail * MOST_VERTICES + head;
     if weights[pair] != NO_ARC {
         return Answer::Refused(Refusal::Repeated(at));
     }
@@ -166,7 +170,7 @@ fn rule_set(bytes: &[u8], at: usize, counts: Counts, flags: &mut [u16; MOST_SETS
     ensures { λ r. ⌜ ((b : Book) → counts ≡ Book·counts b → now (flags .entry) ≡ flagTable (b .sets) → (r ≡ answer (taken RuleSet (now (bytes .entry)) b at)) × (now (flags .exit) ≡ flagTable (kept b (taken RuleSet (now (bytes .entry)) b at) .sets))) ⌝ }
 {
     let k = counts.sets;
-    if 16 <= k {
+    if MOST_SETS <= k {
         return Answer::Refused(Refusal::TooMany(at));
     }
     flags[k] = u16_at(bytes, at + 3) as u16;
@@ -212,9 +216,24 @@ pub fn simple(bytes: &[u8], from: usize, to: usize, vertices: usize) -> bool
     true
 }
 
+// Whether the bytes from `from` up to `to` are a path that the rules take.
+pub fn is_path(bytes: &[u8], from: usize, to: usize, vertices: usize) -> bool
+    requires { ⌜ (from ≤ to) × (to ≤ length (now bytes)) ⌝ }
+    ensures { λ r. ⌜ r ≡ isPath vertices (slice from to (now (bytes .entry))) ⌝ }
+{
+    let n = to - from;
+    if n < 2 {
+        return false;
+    }
+    if 8 < n {
+        return false;
+    }
+    simple(bytes, from, to, vertices)
+}
+
 fn copy(src: &[u8], from: usize, dst: &mut [u8; AREA], to: usize, n: usize)
     requires { ⌜ from + n ≤ length (now src) ⌝ }
-    requires { ⌜ to + n ≤ 2304 ⌝ }
+    requires { ⌜ to + n ≤ areaSize ⌝ }
     ensures { λ _. ⌜ (to + n ≤ length (now (dst .entry)) → now (dst .exit) ≡ paste (now (dst .entry)) to (slice from (from + n) (now (src .entry))) n) ⌝ }
 {
     let mut i = 0;
@@ -242,13 +261,13 @@ fn path(
         return Answer::Refused(Refusal::Value(at));
     }
     let k = counts.paths;
-    if 256 <= k {
+    if MOST_PATHS <= k {
         return Answer::Refused(Refusal::TooMany(at));
     }
     let n = end - from;
     owners[k] = ((counts.sets - 1) % 256) as u8;
-    entries[k * 9] = (n % 256) as u8;
-    copy(bytes, from, entries, k * 9 + 1, n);
+    entries[k * ENTRY] = (n % 256) as u8;
+    copy(bytes, from, entries, k * ENTRY + 1, n);
     Answer::Read(Counts {
         vertices: counts.vertices,
         arcs: counts.arcs,
@@ -267,7 +286,7 @@ pub fn field(
     entries: &mut [u8; AREA],
 ) -> Answer
     requires { ⌜ at < length (now bytes) ⌝ }
-    requires { ⌜ counts .vertices ≤ 64 ⌝ }
+    requires { ⌜ counts .vertices ≤ mostVertices ⌝ }
     requires { ⌜ counts .arcs ≤ at ⌝ }
     ensures { λ r. ⌜ ((b : Book) → counts ≡ Book·counts b → WellFormed b → Tables b (now (weights .entry)) (now (flags .entry)) (now (owners .entry)) (now (entries .entry)) → (r ≡ answer (Reading·field (now (bytes .entry)) b at)) × Tables (kept b (Reading·field (now (bytes .entry)) b at)) (now (weights .exit)) (now (flags .exit)) (now (owners .exit)) (now (entries .exit))) ⌝ }
 {

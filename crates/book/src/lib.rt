@@ -1,7 +1,7 @@
 // The book: its reader, and what a book that is read means to the layers above.
 ghost use mathlib.Core.Path.{_≡_};
 ghost use mathlib.Core.Bool.{true, false};
-ghost use Rattle.book.specs.Refusal.{told};
+ghost use Rattle.book.specs.Refusal.{numberOf};
 ghost use Rattle.book.specs.Book.{Book};
 ghost use Rattle.book.specs.Reading.{reading, answer, accepted};
 ghost use Rattle.book.specs.Tables.{Blank, Tables};
@@ -10,8 +10,8 @@ mod field;
 
 use field::field;
 use field::field_end;
+pub use field::is_path;
 pub use field::proper_arc;
-pub use field::simple;
 use limits::AREA;
 use limits::MOST_PATHS;
 use limits::MOST_SETS;
@@ -35,15 +35,15 @@ pub enum Refusal {
     Full,
 }
 
-// 01's number of a refusal, and the value that it carries, if it has one.
-pub struct Numbered {
+// 01's number of a refusal, and the place that it carries, if it has one.
+pub struct Number {
     pub number: usize,
     pub placed: bool,
     pub place: usize,
 }
 
-pub fn number_of(r: Refusal) -> Numbered
-    ensures { λ n. ⌜ n ≡ told r ⌝ }
+pub fn number_of(r: Refusal) -> Number
+    ensures { λ n. ⌜ n ≡ numberOf r ⌝ }
 {
     match r {
         Refusal::Truncated(at) => placed(1, at),
@@ -62,20 +62,20 @@ pub fn number_of(r: Refusal) -> Numbered
     }
 }
 
-fn placed(number: usize, place: usize) -> Numbered
+fn placed(number: usize, place: usize) -> Number
     ensures { λ n. ⌜ n ≡ record { number = number; placed = true; place = place } ⌝ }
 {
-    Numbered {
+    Number {
         number,
         placed: true,
         place,
     }
 }
 
-fn bare(number: usize) -> Numbered
+fn bare(number: usize) -> Number
     ensures { λ n. ⌜ n ≡ record { number = number; placed = false; place = 0 } ⌝ }
 {
-    Numbered {
+    Number {
         number,
         placed: false,
         place: 0,

@@ -29,13 +29,13 @@ use Rattle.planner.specs.Planning.{Planning}
 use Rattle.examples.specs.Plans.{Gives, sums as planning}
 use Rattle.trials.specs.declared.Begun.{Begun}
 use Rattle.trials.specs.declared.Reported.{Reported}
-use Rattle.trials.specs.Trials.{Report, failed, State, pathArea, trials, takes, Valid, isForbiddenSet, isRecord, isValid, beginRefusal, refusal, Plan, Planner, holding, unless, step, after, run}
-use Rattle.trials.specs.Reports.{reportsIn, reportsOf}
+use Rattle.trial_rules.specs.Trials.{Report, failed, State, pathArea, trials, takes, Valid, isForbiddenSet, isRecord, isValid, beginRefusal, refusal, Plan, Planner, holding, unless, step, after, run}
+use Rattle.series.specs.Reports.{reportsIn, reportsOf}
 use Rattle.trials.specs.Operations.{Left, left, begunAs, firstState, beginningOf, beginning, reportedAs, reportingOf, reporting, replayingOf, replaying}
-use Rattle.trials.specs.Tests.{isForbiddenSet→, isValid→Valid}
-use Rattle.trials.specs.Plans.{plan-best, plan-none}
+use Rattle.trial_rules.specs.Tests.{isForbiddenSet→, isValid→Valid}
+use Rattle.trial_rules.specs.Plans.{plan-best, plan-none}
 use Rattle.trials.specs.Replanning.{chosen-planner}
-use Rattle.trials.specs.Accepted.{oracleTests, only-oracle}
+use Rattle.trial_rules.specs.Accepted.{oracleTests, only-oracle}
 use Rattle.trials.specs.OperationLaws.{same-step}
 
 -- ---- what the sums say

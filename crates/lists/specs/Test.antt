@@ -13,6 +13,13 @@ use mir.Facts.{or-yes}
 -- `search conj` makes a conjunction of tests, and takes one apart.
 pub ruleset conj = (and-i, and-l, and-r)
 
+pub T→true : (b : Bool) → T b → b ≡ true
+T→true true t = refl
+T→true false t = absurd t
+
+pub true→T : (b : Bool) → b ≡ true → T b
+true→T b e = rw e tt
+
 pub T-and : (a b : Bool) → T (a && b) → T a × T b
 T-and a b t = (and-l a b t, and-r a b t)
 

@@ -1,8 +1,7 @@
 -- Two books that differ in the order of their rule sets have equal plans, for every batch, start and end.
 use Prim.Native.Nat.{ℕ}
 use mathlib.Core.Path.{_≡_, refl, sym, ap, ap₂, subst, _∙_}
-use mathlib.Core.Bool.{Bool, true, _&&_}
-use mathlib.Core.List.{List, _++_, List·Permᴰ}
+use mathlib.Core.List.{List, [], _∷_, _++_, List·Permᴰ}
 use mathlib.Core.Option.{Option, none, some}
 use borrow.Author.Tests.{le-leb}
 use lib.Dec.{leb, ltb}
@@ -12,17 +11,17 @@ use Rattle.walks.specs.Walk.{weightOf, hops}
 use Rattle.walks.specs.Avoid.{_⊆_}
 use Rattle.walks.specs.Best.{Best·unique, Best·not-None, Best·same-set}
 use Rattle.book.specs.declared.Refusal.{Refusal}
-use Rattle.book.specs.Refusal.{refusalOf}
-use Rattle.book.specs.Book.{Book, blank}
-use Rattle.book.specs.Reading.{accepted, reading, kept}
-use Rattle.rules.specs.Area.{spelled, valid}
+use Rattle.book.specs.Refusal.{Test, test, refusalBy}
+use Rattle.book.specs.Book.{Book, graph}
+use Rattle.book.specs.Reading.{accepted, reading, bookIn}
+use Rattle.rules.specs.Area.{spelled}
 use Rattle.limits.specs.Limits.{areaSize, longest}
 use Rattle.rules.specs.Binding.{known}
 use Rattle.rules.specs.Operations.{Binding, binding, areaAfter}
 use Rattle.rules.specs.Laws.{same-set, Filled, bind-accepted}
 use Rattle.planner.specs.declared.Outcome.{Outcome}
 use Rattle.planner.specs.declared.Outcome.the-variants.{Walk, Nothing, Refused}
-use Rattle.planner.specs.Planning.{Planned, PlanningOf, Planning}
+use Rattle.planner.specs.Planning.{planTests, Planned, PlanningOf, Planning}
 
 -- The same count and arcs, and the same rule sets in another order.
 pub record Reordered (b c : Book) : Type 0 where
@@ -46,36 +45,28 @@ planned-same none g F G more less s t old (Refused x) r′ new new′ p p′ = a
 planned-same none g F G more less s t old (Walk w h) (Refused x) new new′ p p′ = absurd p′
 planned-same none g F G more less s t old Nothing (Refused x) new new′ p p′ = absurd p′
 
+-- planning after binding is planning under the known paths: 9 is never refused then, nor 8 for the runs area
 module _ (flags start end : ℕ) (old : List ℕ) where
-  -- the refusal in a book of n vertices, with the tests on the runs area as given
-  abbrev pub refusal : ℕ → Bool → Bool → Option Refusal
-  refusal n long valid =
-      refusalOf (record {
-        book = none;
-        areas = long && leb longest (length old);
-        endpoints = ltb start n && ltb end n;
-        valid = valid;
-        walk = true;
-        standing = true;
-        named = true;
-        room = true;
-      })
+  -- the tests that are left in a book of n vertices
+  abbrev pub left-tests : ℕ → List Test
+  left-tests n = test 8 (leb longest (length old)) ∷ test 7 (ltb start n) ∷ test 7 (ltb end n) ∷ []
 
-  abbrev pub decided : ℕ → List Arc → Bool → Bool → List (List ℕ) → Outcome → List ℕ → Type 0
-  decided n arcs long valid F r new = Planned (refusal n long valid) (fromArcs n arcs) F start end old r new
+  abbrev pub PlannedIn : ℕ → List Arc → List (List ℕ) → Outcome → List ℕ → Type 0
+  PlannedIn n arcs F r new = Planned (refusalBy (left-tests n)) (fromArcs n arcs) F start end old r new
 
-  -- planning after binding is planning under the known paths
   module _ (s area : List ℕ) (F : List (List ℕ)) (f : Filled s flags area F) (r : Outcome) (new : List ℕ) where
     abbrev pub after : List ℕ
     after = areaAfter (binding s flags area) area
 
-    pub planned-known : Planning s after (length F) start end old r new → decided (f .book .count) (f .book .arcs) true true (known flags (f .book .sets)) r new
+    same-refusal : refusalBy (planTests after (length F) start end old (f .book)) ≡ refusalBy (left-tests (f .book .count))
+    same-refusal = rw (le-leb areaSize (length after) (f .long), f .validity) refl
+
+    pub planned-known : Planning s after (length F) start end old r new → PlannedIn (f .book .count) (f .book .arcs) (known flags (f .book .sets)) r new
     planned-known p =
         let b = f .book in
-        subst (λ G. decided (b .count) (b .arcs) true true G r new) (f .spells ∙ f .paths)
-        (subst (λ y. decided (b .count) (b .arcs) true y (spelled (length F) after) r new) (f .validity)
-        (subst (λ x. decided (b .count) (b .arcs) x (valid (b .count) after (length F)) (spelled (length F) after) r new) (le-leb areaSize (length after) (f .long))
-        (subst (λ x. PlanningOf x after (length F) start end old r new) (f .read) p)))
+        subst (λ G. PlannedIn (b .count) (b .arcs) G r new) (f .spells ∙ f .paths)
+        (subst (λ o. Planned o (graph b) (spelled (length F) after) start end old r new) same-refusal
+        (subst (λ x. PlanningOf x after (length F) start end old r new) (f .read) p))
 
   -- Books that are read, bound and planned from: equal answers and equal bytes.
   pub order-of-sets : (s s′ : List ℕ) (b c : Book) → reading s ≡ accepted b → reading s′ ≡ accepted c → Reordered b c
@@ -87,13 +78,13 @@ module _ (flags start end : ℕ) (old : List ℕ) where
   order-of-sets s s′ b c read read′ o area area′ F G is is′ r r′ new new′ p p′ =
       let f = bind-accepted s flags area F is in
       let f′ = bind-accepted s′ flags area′ G is′ in
-      let b-is : f .book ≡ b = ap (kept blank) (sym (f .read) ∙ read) in
-      let c-is : f′ .book ≡ c = ap (kept blank) (sym (f′ .read) ∙ read′) in
-      let q : decided (b .count) (b .arcs) true true (known flags (b .sets)) r new =
-      subst (λ x. decided (x .count) (x .arcs) true true (known flags (x .sets)) r new) b-is (planned-known s area F f r new p) in
-      let q′ : decided (c .count) (c .arcs) true true (known flags (c .sets)) r′ new′ =
-      subst (λ x. decided (x .count) (x .arcs) true true (known flags (x .sets)) r′ new′) c-is (planned-known s′ area′ G f′ r′ new′ p′) in
+      let b-is : f .book ≡ b = ap bookIn (sym (f .read) ∙ read) in
+      let c-is : f′ .book ≡ c = ap bookIn (sym (f′ .read) ∙ read′) in
+      let q : PlannedIn (b .count) (b .arcs) (known flags (b .sets)) r new =
+      subst (λ (x : Book). PlannedIn (x .count) (x .arcs) (known flags (x .sets)) r new) b-is (planned-known s area F f r new p) in
+      let q′ : PlannedIn (c .count) (c .arcs) (known flags (c .sets)) r′ new′ =
+      subst (λ (x : Book). PlannedIn (x .count) (x .arcs) (known flags (x .sets)) r′ new′) c-is (planned-known s′ area′ G f′ r′ new′ p′) in
       let (more, less) = same-set flags b c (o .sets) in
-      planned-same (refusal (b .count) true true) (fromArcs (b .count) (b .arcs)) (known flags (b .sets)) (known flags (c .sets)) more less start end old r r′ new new′ q
-      (subst (λ arcs. decided (b .count) arcs true true (known flags (c .sets)) r′ new′) (o .arcs)
-      (subst (λ n. decided n (c .arcs) true true (known flags (c .sets)) r′ new′) (o .counts) q′))
+      planned-same (refusalBy (left-tests (b .count))) (fromArcs (b .count) (b .arcs)) (known flags (b .sets)) (known flags (c .sets)) more less start end old r r′ new new′ q
+      (subst (λ arcs. PlannedIn (b .count) arcs (known flags (c .sets)) r′ new′) (o .arcs)
+      (subst (λ n. PlannedIn n (c .arcs) (known flags (c .sets)) r′ new′) (o .counts) q′))

@@ -1,15 +1,19 @@
 // Planning: the best walk of a book under the forbidden paths of a runs area.
 ghost use mathlib.Core.Path.{_≡_};
+ghost use mathlib.Core.Bool.{true};
 ghost use mathlib.Core.List.{List};
 ghost use Prim.Native.Nat.{ℕ, _<_, _≤_};
 ghost use lib.ListN.{length};
 ghost use Rattle.walks.specs.Graph.{Graph};
 ghost use Rattle.automaton.specs.Area.{Given, Spells, Bounded};
-ghost use Rattle.book.specs.Book.{Book, WellFormed};
-ghost use Rattle.book.specs.Tables.{weightTable};
-ghost use Rattle.search.specs.Plan.{Planned};
+ghost use Rattle.book.specs.Book.{Book, graph};
+ghost use Rattle.book.specs.Reading.{accepted};
+ghost use Rattle.book.specs.Tables.{IsGraph};
+ghost use Rattle.rules.specs.Area.{spelled, valid};
+ghost use Rattle.limits.specs.Limits.{longest};
+ghost use Rattle.search.specs.Plan.{Planned as Searched};
 ghost use Rattle.search.specs.Weights.{Weights};
-ghost use Rattle.planner.specs.Planning.{Planning, PlanningIn};
+ghost use Rattle.planner.specs.Planning.{Planning, PlanningOf};
 use automaton::STATES;
 use automaton::STEPS;
 use book::Answer;
@@ -60,17 +64,16 @@ pub fn plan_in(
     end: u8,
     walk: &mut [u8],
 ) -> Outcome
-    requires { ⌜ ((b : Book) × WellFormed b × (vertices ≡ b .count) × (now weights ≡ weightTable (b .arcs))) ⌝ }
-    ensures { λ r. ⌜ ((b : Book) → WellFormed b → vertices ≡ b .count → now (weights .entry) ≡ weightTable (b .arcs) → PlanningIn b (now (paths .entry)) count start end (now (walk .entry)) r (now (walk .exit))) ⌝ }
+    requires { ⌜ ((b : Book) × IsGraph b vertices (now weights)) ⌝ }
+    ensures { λ r. ⌜ ((b : Book) → IsGraph b vertices (now (weights .entry)) → PlanningOf (accepted b) (now (paths .entry)) count start end (now (walk .entry)) r (now (walk .exit))) ⌝ }
 {
-    if paths.len() < limits::AREA {
+    if paths.len() < AREA {
         return Outcome::Refused(Refusal::Area);
     }
     if walk.len() < LONGEST {
         return Outcome::Refused(Refusal::Area);
     }
-    let s = start as usize;
-    if vertices <= s {
+    if vertices <= start as usize {
         return Outcome::Refused(Refusal::Endpoint);
     }
     if vertices <= end as usize {
@@ -79,10 +82,28 @@ pub fn plan_in(
     if !rules::valid(paths, count, vertices) {
         return Outcome::Refused(Refusal::Invalid);
     }
-    match best_walk(weights, vertices, paths, count, s, end, walk) {
+    match find(weights, vertices, paths, count, start, end, walk) {
         Found::Walk { weight, hops } => Outcome::Walk { weight, hops },
         Found::Nothing => Outcome::Nothing,
     }
+}
+
+// The same where nothing is to be refused: the best walk, or that there is none.
+pub fn find(
+    weights: &[u32; PAIRS],
+    vertices: usize,
+    paths: &[u8],
+    count: usize,
+    start: u8,
+    end: u8,
+    walk: &mut [u8],
+) -> Found
+    requires { ⌜ ((b : Book) × IsGraph b vertices (now weights)) ⌝ }
+    requires { ⌜ valid vertices (now paths) count ≡ true ⌝ }
+    requires { ⌜ (start < vertices) × (longest ≤ length (now walk)) ⌝ }
+    ensures { λ r. ⌜ ((b : Book) → IsGraph b vertices (now (weights .entry)) → Searched (graph b) (spelled count (now (paths .entry))) start end (now (walk .entry)) r (now (walk .exit))) ⌝ }
+{
+    best_walk(weights, vertices, paths, count, start as usize, end, walk)
 }
 
 // The best walk, over the automaton of the forbidden paths.
@@ -97,8 +118,8 @@ fn best_walk(
 ) -> Found
     requires { ⌜ Given (now paths) count vertices ⌝ }
     requires { ⌜ ((g : Graph) × (g .count ≡ vertices) × Weights g (now weights)) ⌝ }
-    requires { ⌜ (start < vertices) × (1600 ≤ length (now walk)) ⌝ }
-    ensures { λ r. ⌜ ((g : Graph) (F : List (List ℕ)) → g .count ≡ vertices → Weights g (now (weights .entry)) → Spells (now (paths .entry)) count F → Bounded vertices F → Planned g F start end (now (walk .entry)) r (now (walk .exit))) ⌝ }
+    requires { ⌜ (start < vertices) × (longest ≤ length (now walk)) ⌝ }
+    ensures { λ r. ⌜ ((g : Graph) (F : List (List ℕ)) → g .count ≡ vertices → Weights g (now (weights .entry)) → Spells (now (paths .entry)) count F → Bounded vertices F → Searched g F start end (now (walk .entry)) r (now (walk .exit))) ⌝ }
 {
     let mut steps = [0u16; STEPS];
     let mut blocked = [0u64; STATES];

@@ -9,7 +9,7 @@ use lib.Dec.{leb}
 use lib.ListN.{length, getD, take, drop}
 use lib.Seq.{slice}
 use Rattle.lists.specs.Test.{any, all}
-use Rattle.book.specs.Book.{simple}
+use Rattle.book.specs.Book.{isPath}
 use Rattle.rules.specs.Area.{blocks, isEntry}
 use Rattle.rules.specs.AreaLaws.{slice-part, blocks-from, length-byte, path-part}
 
@@ -47,15 +47,11 @@ module _ (f : List ℕ → Bool) (n k : ℕ) (t : List ℕ) where
 
 -- ---- the entry at a byte
 module _ (area : List ℕ) (at v : ℕ) where
-  pub entry-short : getD area at 0 < 2 → isEntry v (take 9 (drop at area)) ≡ false
-  entry-short h = rw (length-byte area at, lt-leb _ _ h)
+  pub entry-long : 8 < getD area at 0 → isEntry v (take 9 (drop at area)) ≡ false
+  entry-long h = rw (length-byte area at, lt-leb _ _ h)
 
-  pub entry-long : 2 ≤ getD area at 0 → 8 < getD area at 0 → isEntry v (take 9 (drop at area)) ≡ false
-  entry-long low h = rw (length-byte area at, le-leb _ _ low, lt-leb _ _ h)
-
-  pub entry-simple : at + 9 ≤ length area → 2 ≤ getD area at 0 → getD area at 0 ≤ 8
-      → isEntry v (take 9 (drop at area)) ≡ simple v (slice (at + 1) (at + 1 + getD area at 0) area)
-  entry-simple within low high =
-      ap₂ (λ n p. leb 2 n && leb n 8 && simple v p) (length-byte area at)
+  pub entry-path : at + 9 ≤ length area → getD area at 0 ≤ 8 → isEntry v (take 9 (drop at area)) ≡ isPath v (slice (at + 1) (at + 1 + getD area at 0) area)
+  entry-path within high =
+      ap₂ (λ n p. leb n 8 && isPath v p) (length-byte area at)
       (path-part area at (getD area at 0) refl high ∙ sym (slice-part (at + 1) (getD area at 0) area (omega arith)))
-      ∙ rw (le-leb _ _ low, le-leb _ _ high)
+      ∙ rw (le-leb _ _ high)

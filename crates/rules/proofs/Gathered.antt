@@ -8,15 +8,15 @@ use native.Mathlib.Numerals.{add-one}
 use native.Mathlib.Omega.{arith}
 use lib.ListN.{length, getD, take, drop, replicate, length-append, drop-of-length-le, take-append-drop}
 use lib.Seq.{paste, drop-cons, getD-drop, drop-drop}
-use Rattle.book.specs.Book.{RuleSet, All, allPaths}
+use Rattle.book.specs.Book.{RuleSet, Book, All, allPaths}
 use Rattle.book.specs.BookLaws.{all-snoc}
-use Rattle.book.specs.Tables.{entry, entries, flagsOf, ownersFrom, ownerTable}
+use Rattle.book.specs.Loaded.{sets-short}
+use Rattle.book.specs.Tables.{IsSets, entry, entries, flagsOf, ownersFrom, ownerTable}
 use Rattle.rules.specs.Binding.{covers, bound, member, add, known}
 use Rattle.rules.specs.Area.{written, blocks}
 use Rattle.limits.specs.Limits.{areaSize}
 use Rattle.book.specs.EntryLaws.{Short, length-owners}
 use Rattle.rules.specs.AreaLaws.{entry-at, member-entry}
-use Rattle.rules.specs.Listed.{Listed}
 use Rattle.rules.proofs.Entered.{blocks-written, entry-entered}
 
 -- ---- paths with the index of their rule set, each added where its set's flags are held
@@ -88,28 +88,11 @@ all-at P [] k h l = absurd (omega arith)
 all-at P (p ∷ F) zero h l = h .0
 all-at P (p ∷ F) (suc k) h l = all-at P F k (h .1) (omega arith)
 
--- each path has the index of one of the sets
-pub owner-below : (k : ℕ) (ss : List RuleSet) (i : ℕ) → 1 ≤ k + length ss → getD (ownersFrom k ss) i 0 < k + length ss
-unfolding ownersFrom
-owner-below k [] i h = omega arith
-owner-below k (s ∷ ss) i h = among (length (s .paths)) i (owner-below (suc k) ss)
-  where
-    among : (m i : ℕ) → ((j : ℕ) → 1 ≤ suc k + length ss → getD (ownersFrom (suc k) ss) j 0 < suc k + length ss)
-        → getD (replicate m k ++ ownersFrom (suc k) ss) i 0 < k + suc (length ss)
-    among zero i later = omega (arith, later i (omega arith))
-    among (suc m) zero later = omega arith
-    among (suc m) (suc i) later = among m i later
-
-pub owners-below : (ss : List RuleSet) → length ss ≤ 16 → (i : ℕ) → getD (ownerTable ss) i 0 < 16
-unfolding ownersFrom
-owners-below ss few i = rw (zeros-after (ownersFrom 0 ss)) (go ss few)
-  where
-    go : (ss : List RuleSet) → length ss ≤ 16 → getD (ownersFrom 0 ss) i 0 < 16
-    go [] few = omega arith
-    go (s ∷ ss) few = omega (arith, owner-below 0 (s ∷ ss) i (omega arith))
-
 -- ---- the paths of F have been entered, and those from j on are still to be judged
-module _ (flags : ℕ) (ss : List RuleSet) where
+module _ (flags : ℕ) (b : Book) where
+  abbrev ss : List RuleSet
+  ss = b .sets
+
   pub record Gathered (area : List ℕ) (n j : ℕ) : Type 0 where
     pub paths : List (List ℕ)
     pub short : All Short paths
@@ -127,7 +110,7 @@ module _ (flags : ℕ) (ss : List RuleSet) where
         let is = sym (collect-past flags (flagsOf ss) (g .paths) (ownersFrom 0 ss) (allPaths ss) j (omega (arith, length-owners 0 ss))) ∙ g .rest in
         (g .count-is ∙ ap length is, g .area-is ∙ ap written is)
 
-    module _ (needed owners entries : List ℕ) (paths : ℕ) (listed : Listed ss needed owners entries paths) (more : j < paths) where
+    module _ (needed owners entries : List ℕ) (paths : ℕ) (listed : IsSets b paths needed owners entries) (more : j < paths) where
       more-listed : j < length (allPaths ss)
       more-listed = omega (arith, listed .counted)
 
@@ -152,7 +135,7 @@ module _ (flags : ℕ) (ss : List RuleSet) where
           record { paths = g .paths; short = g .short; area-is = g .area-is; count-is = g .count-is; rest = next false (member path (g .paths)) e refl }
 
       entry-is : take 9 (drop (j * 9) entries) ≡ entry path
-      entry-is = ap (λ t. take 9 (drop (j * 9) t)) (listed .paths-are) ∙ entry-at (allPaths ss) _ j (listed .short) more-listed
+      entry-is = ap (λ t. take 9 (drop (j * 9) t)) (listed .paths-are) ∙ entry-at (allPaths ss) _ j (sets-short listed) more-listed
 
       module _ (applies : covers 16 (getD needed (getD owners j 0) 0) flags ≡ true) where
         searched : member (take 9 (drop (j * 9) entries)) (blocks n area) ≡ member path (g .paths)
@@ -168,7 +151,7 @@ module _ (flags : ℕ) (ss : List RuleSet) where
         added e room after is =
             let later : List ℕ = drop 9 (drop (j * 9) entries) in
             let split : drop (j * 9) entries ≡ entry path ++ later = sym (take-append-drop 9 (drop (j * 9) entries)) ∙ ap (λ l. l ++ later) entry-is in
-            let fits = all-at Short (allPaths ss) j (listed .short) more-listed in
+            let fits = all-at Short (allPaths ss) j (sets-short listed) more-listed in
             record {
               paths = g .paths ++ (path ∷ []);
               short = all-snoc Short (g .paths) path (g .short) fits;

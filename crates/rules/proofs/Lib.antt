@@ -4,7 +4,6 @@ pub mod Entries
 pub mod Entered
 pub mod Validity
 pub mod Gathered
-pub mod Loaded
 pub mod Binds
 pub mod Walks
 pub mod Searched

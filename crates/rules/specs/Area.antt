@@ -5,9 +5,9 @@ use mathlib.Core.List.{List, [], _∷_, map}
 use lib.Dec.{leb}
 use lib.ListN.{getD, take, drop}
 use Rattle.lists.specs.Test.{all}
-use Rattle.limits.specs.Limits.{mostPaths, areaSize}
+use Rattle.limits.specs.Limits.{mostPaths, entrySize, areaSize}
 use Rattle.walks.specs.Avoid.{same}
-use Rattle.book.specs.Book.{simple}
+use Rattle.book.specs.Book.{isPath}
 use Rattle.book.specs.Tables.{padded, entries}
 use Rattle.rules.specs.Binding.{once}
 
@@ -18,7 +18,7 @@ written F = padded areaSize (entries F)
 -- The first n entries of an area.
 unfoldable pub blocks : ℕ → List ℕ → List (List ℕ)
 blocks zero t = []
-blocks (suc n) t = take 9 t ∷ blocks n (drop 9 t)
+blocks (suc n) t = take entrySize t ∷ blocks n (drop entrySize t)
 
 -- The path that an entry spells: as many of its vertices as its length says.
 abbrev pub pathOf : List ℕ → List ℕ
@@ -28,9 +28,9 @@ pathOf e = take (getD e 0 0) (drop 1 e)
 abbrev pub spelled : ℕ → List ℕ → List (List ℕ)
 spelled count area = map pathOf (blocks count area)
 
--- An entry that the book's rules for paths take: 2 to 8 vertices below the count, none named twice.
+-- An entry that spells a path that the book's rules take.
 abbrev pub isEntry : ℕ → List ℕ → Bool
-isEntry vertices e = leb 2 (getD e 0 0) && leb (getD e 0 0) 8 && simple vertices (pathOf e)
+isEntry vertices e = leb (getD e 0 0) 8 && isPath vertices (pathOf e)
 
 -- 9: at most 256 paths, each by the book's rules, none repeated, and every unused byte 0.
 abbrev pub valid : ℕ → List ℕ → ℕ → Bool

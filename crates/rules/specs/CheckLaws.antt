@@ -11,12 +11,12 @@ use borrow.Author.Tests.{eqb-true, eq-eqb, leb-true, le-leb}
 use lib.Dec.{eqb, leb}
 use lib.ListN.{length, take, drop, length-append, take-append-drop}
 use lib.Seq.{slice, take-at, drop-at}
-use Rattle.lists.specs.Test.{any→some, some→any, and-true}
+use Rattle.lists.specs.Test.{T→true, true→T, any→some, some→any, and-true}
 use Rattle.walks.specs.Avoid.{Occurs, Avoids, same}
 use Rattle.rules.specs.declared.Checked.the-variants.{Clear, Occurs as Occurs-at}
 use Rattle.rules.specs.AreaLaws.{slice-part}
 use Rattle.rules.specs.Checking.{endsAt, someEnds, firstFrom, namedAt, answerAt, checkFrom, occurrence}
-use Rattle.rules.specs.Sets.{T-true, true-T, same-true, true-same, refuted}
+use Rattle.rules.specs.Sets.{same-true, true-same, refuted}
 
 -- ---- the first number that passes
 pub first-none : (p : ℕ → Bool) (k n : ℕ) → ((m : ℕ) → n ≤ m → p m ≡ false) → firstFrom p k n ≡ none
@@ -93,14 +93,14 @@ module _ (w r : List ℕ) where
 module _ (F : List (List ℕ)) (w : List ℕ) where
   some-ends : (e n : ℕ) → someEnds F w e n ≡ true → (r : List ℕ) × List·Memᴰ r F × (length r ≡ n) × (endsAt w e r ≡ true)
   some-ends e n h =
-      let (r, m, t) = any→some (λ r. eqb (length r) n && endsAt w e r) F (true-T _ h) in
-      let (size, there) = and-true (eqb (length r) n) (endsAt w e r) (T-true _ t) in
+      let (r, m, t) = any→some (λ r. eqb (length r) n && endsAt w e r) F (true→T _ h) in
+      let (size, there) = and-true (eqb (length r) n) (endsAt w e r) (T→true _ t) in
       (r, m, eqb-true (length r) n size, there)
 
   ends-some : (e : ℕ) {r : List ℕ} → List·Memᴰ r F → endsAt w e r ≡ true → someEnds F w e (length r) ≡ true
   ends-some e {r} m h =
-      T-true (someEnds F w e (length r))
-      (some→any (λ q. eqb (length q) (length r) && endsAt w e q) m (true-T (eqb (length r) (length r) && endsAt w e r) (ap₂ (λ x y. x && y) (eq-eqb (length r) (length r) refl) h)))
+      T→true (someEnds F w e (length r))
+      (some→any (λ q. eqb (length q) (length r) && endsAt w e q) m (true→T (eqb (length r) (length r) && endsAt w e r) (ap₂ (λ x y. x && y) (eq-eqb (length r) (length r) refl) h)))
 
   -- ---- clear
   clear-end : (k e : ℕ) → checkFrom F w k e ≡ Clear → (j : ℕ) → e ≤ j → j < e + k → namedAt F w j ≡ none

@@ -3,26 +3,26 @@ use Prim.Native.Nat.{ℕ, _≤_}
 use mathlib.Core.Bool.{Bool, true, false, cond}
 use mathlib.Core.List.{List, [], _∷_, _++_, List·Memᴰ, List·Memᴰ·head, List·Memᴰ·tail, List·Memᴰ·cases-cons, List·Memᴰ·append-cases, List·Memᴰ·not-nil, Memᴰ·append-left, Memᴰ·append-right, List·Permᴰ, List·Permᴰ·nil, List·Permᴰ·cons, List·Permᴰ·swap, List·Permᴰ·trans, Permᴰ·symm}
 use mathlib.Core.Logic.{⊎-elim}
-use mathlib.Core.Option.{Option, none, some, Option·none-ne-some}
+use mathlib.Core.Option.{Option, none, some}
 use mathlib.Core.Path.{_≡_, refl, sym, ap, ap₂, subst, _∙_}
 use native.Mathlib.Omega.{arith}
-use borrow.Author.Tests.{leb-true, le-leb}
+use borrow.Author.Tests.{le-leb}
 use lib.Dec.{leb}
 use lib.ListN.{length, drop, length-append}
 use Rattle.walks.specs.Avoid.{Avoids, _⊆_}
 use Rattle.book.specs.declared.Refusal.{Refusal}
-use Rattle.book.specs.declared.Refusal.the-variants.{NotAWalk}
-use Rattle.book.specs.Refusal.{refusalOf}
+use Rattle.book.specs.Refusal.{Test, test, refusalBy}
+use Rattle.book.specs.RefusalLaws.{none→hold, hold→none, first-of-append}
 use Rattle.book.specs.Book.{RuleSet, Book, All, IsPath, graph}
 use Rattle.book.specs.BookLaws.{reading-is-book}
-use Rattle.book.specs.Reading.{Reading, reading}
+use Rattle.book.specs.Reading.{Reading, reading, refusalOf}
 use Rattle.rules.specs.declared.Checked.{Checked}
 use Rattle.rules.specs.declared.Checked.the-variants.{Clear}
 use Rattle.rules.specs.Binding.{applies, bound, known, once}
 use Rattle.rules.specs.Area.{written, spelled, valid}
 use Rattle.limits.specs.Limits.{areaSize}
 use Rattle.rules.specs.Checking.{checkable, occurrence}
-use Rattle.rules.specs.Operations.{refusalIn, bookIn, tests, Binding, outcome, bindingOf, binding, areaAfter, verdict, checkingOf, checking}
+use Rattle.rules.specs.Operations.{Binding, outcome, bindTests, bindingOf, binding, areaAfter, verdict, checkTests, checkingOf, checking}
 use Rattle.rules.specs.Sets.{listed→distinct, distinct→listed}
 use Rattle.rules.specs.BindingLaws.{known-few, known-paths, known-once}
 use Rattle.rules.specs.ValidLaws.{valid→Valid, written-length, written-valid, written-spells}
@@ -108,7 +108,7 @@ module _ (s : List ℕ) (flags : ℕ) (area : List ℕ) where
       go (Reading.accepted b) read e =
           let well = reading-is-book s b read .well-formed in
           let after : areaAfter (binding s flags area) area ≡ written F ++ drop areaSize area = ap (λ x. areaAfter x area) is in
-          let F-is : known flags (b .sets) ≡ F = outcome-bound (refusalOf (tests (Reading.accepted b) area true true)) (known flags (b .sets)) F e in
+          let F-is : known flags (b .sets) ≡ F = outcome-bound (refusalBy (bindTests area b)) (known flags (b .sets)) F e in
           let few : length F ≤ 256 = subst (λ G. length G ≤ 256) F-is (known-few flags b well) in
           let proper : All (IsPath (b .count)) F = subst (All (IsPath (b .count))) F-is (known-paths flags b well) in
           let different : once F ≡ true = ap once (sym F-is) ∙ known-once flags b well in
@@ -126,15 +126,6 @@ module _ (s : List ℕ) (flags : ℕ) (area : List ℕ) where
           }
 
 -- ---- the check
--- what no refusal tells of each group
-passed : (o : Option Refusal) (x y z : Bool) → refusalOf (record { book = o; areas = x; endpoints = true; valid = y; walk = z; standing = true; named = true; room = true }) ≡ none
-    → (x ≡ true) × (y ≡ true) × (z ≡ true)
-passed (some q) x y z e = absurd (Option·none-ne-some _ (sym e))
-passed none false y z e = absurd (Option·none-ne-some _ (sym e))
-passed none true false z e = absurd (Option·none-ne-some _ (sym e))
-passed none true true false e = absurd (Option·none-ne-some _ (sym e))
-passed none true true true e = (refl, refl, refl)
-
 -- the paths of a valid area have 2 to 8 vertices
 sizes : (v : ℕ) (F : List (List ℕ)) → All (IsPath v) F → (r : List ℕ) → List·Memᴰ r F → (2 ≤ length r) × (length r ≤ 8)
 sizes v [] h r m = absurd (List·Memᴰ·not-nil m)
@@ -142,34 +133,33 @@ sizes v (p ∷ F) h r m =
     ⊎-elim (λ here. (rw here (h .0 .two), rw here (h .0 .eight))) (sizes v F (h .1) r) (List·Memᴰ·cases-cons m)
 
 module _ (s area : List ℕ) (count : ℕ) (w : List ℕ) where
-  abbrev pub checkTests : Option Refusal
-  checkTests = refusalOf (tests (reading s) area (valid (bookIn (reading s) .count) area count) (checkable (graph (bookIn (reading s))) w))
+  abbrev pub checkRefusal : Option Refusal
+  checkRefusal = refusalOf (reading s) (checkTests area count w)
 
   -- A walk that the check finds clear avoids the forbidden paths of the area ...
   pub clear-avoids : checking s area count w ≡ Clear → Avoids (spelled count area) w
-  clear-avoids e = go checkTests refl e
+  clear-avoids e = go (reading s) e
     where
-      go : (o : Option Refusal) → checkTests ≡ o → verdict o (occurrence (spelled count area) w) ≡ Clear → Avoids (spelled count area) w
-      go (some q) is h = absurd (let z : _≡_ {A = ℕ} 0 1 = cc in omega arith)
-      go none is h =
-          let (long, ok, _) =
-          passed (refusalIn (reading s)) (leb areaSize (length area)) (valid (bookIn (reading s) .count) area count) (checkable (graph (bookIn (reading s))) w) is in
-          let v = valid→Valid (bookIn (reading s) .count) area count (leb-true areaSize (length area) long) ok in
-          clear→Avoids (spelled count area) w (sizes (bookIn (reading s) .count) (spelled count area) (v .paths)) h
+      by-tests : (b : Book) (o : Option Refusal) → refusalBy (checkTests area count w b) ≡ o → verdict o (occurrence (spelled count area) w) ≡ Clear → Avoids (spelled count area) w
+      by-tests b (some q) is h = absurd (let z : _≡_ {A = ℕ} 0 1 = cc in omega arith)
+      by-tests b none is h =
+          let ok = none→hold (checkTests area count w b) is .1 .0 in
+          clear→Avoids (spelled count area) w (sizes (b .count) (spelled count area) (valid→Valid (b .count) area count ok .paths)) h
+
+      go : (r : Reading) → checkingOf r area count w ≡ Clear → Avoids (spelled count area) w
+      go (Reading.accepted b) h = by-tests b (refusalBy (checkTests area count w b)) refl h
+      go (Reading.refused q) h = absurd (let z : _≡_ {A = ℕ} 0 1 = cc in omega arith)
 
   -- ... and one that avoids them is found clear, where nothing is refused.
-  pub avoids-clear : checkTests ≡ none → Avoids (spelled count area) w → checking s area count w ≡ Clear
+  pub avoids-clear : checkRefusal ≡ none → Avoids (spelled count area) w → checking s area count w ≡ Clear
   avoids-clear e h = ap (λ o. verdict o (occurrence (spelled count area) w)) e ∙ Avoids→clear (spelled count area) w h
 
 -- With the area and the count of an accepted bind only 10 is refused, and the check is that of the known paths.
 pub bind-then-check : (s : List ℕ) (flags : ℕ) (area : List ℕ) (F : List (List ℕ)) (f : Filled s flags area F) (w : List ℕ)
-    → checking s (areaAfter (binding s flags area) area) (length F) w ≡ verdict (cond (checkable (graph (f .book)) w) none (some NotAWalk)) (occurrence F w)
+    → checking s (areaAfter (binding s flags area) area) (length F) w ≡ verdict (refusalBy (test 10 (checkable (graph (f .book)) w) ∷ [])) (occurrence F w)
 bind-then-check s flags area F f w =
     let after = areaAfter (binding s flags area) area in
+    let held : List Test = test 8 (leb areaSize (length after)) ∷ test 9 (valid (f .book .count) after (length F)) ∷ [] in
     ap (λ r. checkingOf r after (length F) w) (f .read)
-    ∙ ap (λ x. decided x (valid (f .book .count) after (length F)) (spelled (length F) after)) (le-leb areaSize (length after) (f .long))
-    ∙ ap₂ (decided true) (f .validity) (f .spells)
-  where
-    decided : Bool → Bool → List (List ℕ) → Checked
-    decided x y G =
-        verdict (refusalOf (record { book = none; areas = x; endpoints = true; valid = y; walk = checkable (graph (f .book)) w; standing = true; named = true; room = true })) (occurrence G w)
+    ∙ ap₂ (λ o G. verdict o (occurrence G w))
+    (first-of-append held (test 10 (checkable (graph (f .book)) w) ∷ []) (hold→none held (le-leb areaSize (length after) (f .long), (f .validity, tt)))) (f .spells)

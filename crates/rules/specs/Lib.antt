@@ -4,7 +4,6 @@ pub mod Checking
 pub mod Operations
 pub mod Sets
 pub mod AreaLaws
-pub mod Listed
 pub mod BindingLaws
 pub mod ValidLaws
 pub mod CheckLaws

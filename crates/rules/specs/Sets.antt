@@ -6,22 +6,15 @@ use mathlib.Core.Logic.{_⊎_, inl, inr, ⊎-elim}
 use mathlib.Core.Path.{_≡_, refl, sym, ap, ap₂, _∙_}
 use native.Mathlib.Omega.{arith}
 use borrow.Author.Tests.{not-true}
-use lib.Dec.{T, eqb, eqb·suc-suc}
+use lib.Dec.{eqb, eqb·suc-suc}
 use lib.ListN.{length, length-append}
-use Rattle.lists.specs.Test.{any→some, some→any, and-true}
+use Rattle.lists.specs.Test.{T→true, true→T, and-true, any→some, some→any}
 use Rattle.walks.specs.Avoid.{isPrefix, same, same→≡, same-refl}
 use Rattle.book.specs.Book.{All}
 use Rattle.book.specs.BookLaws.{all-snoc}
 use Rattle.rules.specs.Binding.{member, add, once}
 
 -- ---- tests
-pub T-true : (b : Bool) → T b → b ≡ true
-T-true true t = refl
-T-true false t = absurd t
-
-pub true-T : (b : Bool) → b ≡ true → T b
-true-T b e = rw e tt
-
 -- Two tests that hold together are equal.
 pub iff : (a b : Bool) → (a ≡ true → b ≡ true) → (b ≡ true → a ≡ true) → a ≡ b
 iff true b f g = sym (f refl)
@@ -34,10 +27,10 @@ refuted false f = refl
 
 -- ---- equal lists
 pub same-true : (p q : List ℕ) → same p q ≡ true → p ≡ q
-same-true p q e = same→≡ p q (true-T (same p q) e)
+same-true p q e = same→≡ p q (true→T (same p q) e)
 
 pub true-same : (p q : List ℕ) → p ≡ q → same p q ≡ true
-true-same p q e = rw e (T-true (same q q) (same-refl q))
+true-same p q e = rw e (T→true (same q q) (same-refl q))
 
 pub same-iff : (p q r s : List ℕ) → (p ≡ q → r ≡ s) → (r ≡ s → p ≡ q) → same p q ≡ same r s
 same-iff p q r s f g = iff (same p q) (same r s) (λ e. true-same r s (f (same-true p q e))) (λ e. true-same p q (g (same-true r s e)))
@@ -52,11 +45,11 @@ same-cons a b p q = ap (λ x. eqb a b && isPrefix p q && x) (eqb·suc-suc (lengt
 -- ---- members
 pub member→Mem : (p : List ℕ) (F : List (List ℕ)) → member p F ≡ true → List·Memᴰ p F
 member→Mem p F e =
-    let (q, m, t) = any→some (same p) F (true-T (member p F) e) in
+    let (q, m, t) = any→some (same p) F (true→T (member p F) e) in
     Memᴰ·cast (same→≡ p q t) m
 
 pub Mem→member : {p : List ℕ} {F : List (List ℕ)} → List·Memᴰ p F → member p F ≡ true
-Mem→member {p} {F} m = T-true (member p F) (some→any (same p) m (same-refl p))
+Mem→member {p} {F} m = T→true (member p F) (some→any (same p) m (same-refl p))
 
 -- ---- no path twice
 pub once-snoc : (F : List (List ℕ)) (p : List ℕ) → once (F ++ (p ∷ [])) ≡ once F && not (member p F)

@@ -10,8 +10,8 @@ use lib.ListN.{length, getD, take, drop, replicate, length-drop}
 use lib.Seq.{take-at, length-take-le}
 use Rattle.lists.specs.Test.{all, and-true}
 use Rattle.walks.specs.Avoid.{same}
-use Rattle.book.specs.Book.{All, IsPath, VerticesOnce, simple}
-use Rattle.book.specs.BookLaws.{simple-below, simple-once, all-map}
+use Rattle.book.specs.Book.{All, IsPath, isPath}
+use Rattle.book.specs.BookLaws.{isPath→IsPath, IsPath→isPath, all-map}
 use Rattle.book.specs.Tables.{entry, entries}
 use Rattle.rules.specs.Binding.{once}
 use Rattle.rules.specs.Area.{written, blocks, pathOf, spelled, isEntry, valid}
@@ -29,31 +29,13 @@ pub record Valid (vertices : ℕ) (area : List ℕ) (count : ℕ) : Type 0 where
 
 -- ---- entries
 pub entry-fits : (v : ℕ) (e : List ℕ) → isEntry v e ≡ true → getD e 0 0 ≤ 8
-entry-fits v e h = leb-true _ _ (and-true (leb 2 (getD e 0 0)) _ (and-true (leb 2 (getD e 0 0) && leb (getD e 0 0) 8) _ h .0) .1)
+entry-fits v e h = leb-true _ _ (and-true (leb (getD e 0 0) 8) _ h .0)
 
-entry-path : (v : ℕ) (e : List ℕ) → length e ≡ 9 → isEntry v e ≡ true → IsPath v (pathOf e)
-entry-path v e nine h =
-    let three = and-true (leb 2 (getD e 0 0) && leb (getD e 0 0) 8) (simple v (pathOf e)) h in
-    let two = and-true (leb 2 (getD e 0 0)) (leb (getD e 0 0) 8) (three .0) in
-    let low : 2 ≤ getD e 0 0 = leb-true _ _ (two .0) in
-    let high : getD e 0 0 ≤ 8 = leb-true _ _ (two .1) in
-    let size : length (pathOf e) ≡ getD e 0 0 = length-take-le (getD e 0 0) (drop 1 e) (omega (arith, length-drop 1 e)) in
-    record {
-      two = omega (arith, size);
-      eight = omega (arith, size);
-      below = simple-below v (pathOf e) (three .1);
-      once = simple-once v (pathOf e) (three .1);
-    }
-
-path-simple : (v : ℕ) (p : List ℕ) → All (λ u. u < v) p → VerticesOnce p → simple v p ≡ true
-unfolding simple
-path-simple v [] below once = refl
-path-simple v (u ∷ p) below once = rw (lt-ltb u v (below .0), once .0, path-simple v p (below .1) (once .1))
+entry-path : (v : ℕ) (e : List ℕ) → isEntry v e ≡ true → IsPath v (pathOf e)
+entry-path v e h = isPath→IsPath v (pathOf e) (and-true (leb (getD e 0 0) 8) _ h .1)
 
 path-entry : (v : ℕ) (p : List ℕ) → IsPath v p → isEntry v (entry p) ≡ true
-path-entry v p h =
-    ap (λ q. leb 2 (length p) && leb (length p) 8 && simple v q) (path-of-entry p)
-    ∙ rw (le-leb _ _ (h .two), le-leb _ _ (h .eight), path-simple v p (h .below) (h .once))
+path-entry v p h = ap (λ q. leb (length p) 8 && isPath v q) (path-of-entry p) ∙ rw (le-leb _ _ (h .eight), IsPath→isPath v p h)
 
 module _ (v : ℕ) where
   pub entries-fit : (es : List (List ℕ)) → all (isEntry v) es ≡ true → All (λ e. getD e 0 0 ≤ 8) es
@@ -62,14 +44,11 @@ module _ (v : ℕ) where
       let both = and-true (isEntry v e) (all (isEntry v) es) h in
       (entry-fits v e (both .0), entries-fit es (both .1))
 
-  paths-of : (n : ℕ) (t : List ℕ) → n * 9 ≤ length t → all (isEntry v) (blocks n t) ≡ true → All (IsPath v) (spelled n t)
-  unfolding blocks
-  paths-of zero t room h = tt
-  paths-of (suc n) t room h =
-      let both = and-true (isEntry v (take 9 t)) (all (isEntry v) (blocks n (drop 9 t))) h in (
-        entry-path v (take 9 t) (length-take-le 9 t (omega arith)) (both .0),
-        paths-of n (drop 9 t) (omega (arith, length-drop 9 t)) (both .1),
-      )
+  paths-of : (es : List (List ℕ)) → all (isEntry v) es ≡ true → All (IsPath v) (map pathOf es)
+  paths-of [] h = tt
+  paths-of (e ∷ es) h =
+      let both = and-true (isEntry v e) (all (isEntry v) es) h in
+      (entry-path v e (both .0), paths-of es (both .1))
 
   all-entries : (F : List (List ℕ)) → All (IsPath v) F → all (isEntry v) (map entry F) ≡ true
   all-entries [] h = refl
@@ -90,10 +69,10 @@ module _ (v : ℕ) (area : List ℕ) (count : ℕ) where
       let (few, every, _, _) = four h in
       (few, entries-fit v (blocks count area) every)
 
-  pub valid→Valid : areaSize ≤ length area → valid v area count ≡ true → Valid v area count
-  valid→Valid long h =
+  pub valid→Valid : valid v area count ≡ true → Valid v area count
+  valid→Valid h =
       let (few, every, different, bytes) = four h in
-      record { few = few; paths = paths-of v count area (omega arith) every; different = different; bytes = bytes }
+      record { few = few; paths = paths-of v (blocks count area) every; different = different; bytes = bytes }
 
 -- An area written with different paths by the book's rules is valid, and spells them.
 module _ (v : ℕ) (F : List (List ℕ)) (few : length F ≤ 256) (proper : All (IsPath v) F) (different : once F ≡ true) (rest : List ℕ) where

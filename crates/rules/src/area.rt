@@ -6,10 +6,12 @@ ghost use lib.Seq.{paste};
 ghost use Rattle.walks.specs.Avoid.{same};
 ghost use Rattle.rules.specs.Binding.{member};
 ghost use Rattle.rules.specs.Area.{blocks};
-ghost use Rattle.limits.specs.Limits.{areaSize};
+ghost use Rattle.limits.specs.Limits.{entrySize, areaSize};
 ghost use Rattle.rules.specs.Area.{isEntry as Area·isEntry, valid as Area·valid};
-use book::simple;
+use book::is_path;
 use limits::AREA;
+use limits::ENTRY;
+use limits::MOST_PATHS;
 use lists::wide;
 
 pub fn copy(src: &[u8], from: usize, dst: &mut [u8], to: usize, n: usize)
@@ -42,13 +44,13 @@ fn same_bytes(a: &[u8], at: usize, b: &[u8], from: usize, n: usize) -> bool
 
 // Whether the entry at byte `at` of b is among the first n of `table`.
 pub fn found(b: &[u8], at: usize, table: &[u8], n: usize) -> bool
-    requires { ⌜ at + 9 ≤ length (now b) ⌝ }
-    requires { ⌜ n * 9 ≤ length (now table) ⌝ }
-    ensures { λ r. ⌜ r ≡ member (take 9 (drop at (now (b .entry)))) (blocks n (now (table .entry))) ⌝ }
+    requires { ⌜ at + entrySize ≤ length (now b) ⌝ }
+    requires { ⌜ n * entrySize ≤ length (now table) ⌝ }
+    ensures { λ r. ⌜ r ≡ member (take entrySize (drop at (now (b .entry)))) (blocks n (now (table .entry))) ⌝ }
 {
     let mut k = 0;
     while k < n {
-        if same_bytes(b, at, table, k * 9, 9) {
+        if same_bytes(b, at, table, k * ENTRY, ENTRY) {
             return true;
         }
         k += 1;
@@ -58,17 +60,14 @@ pub fn found(b: &[u8], at: usize, table: &[u8], n: usize) -> bool
 
 // Whether the entry at byte `at` is one that the book's rules take.
 fn is_entry(area: &[u8], at: usize, vertices: usize) -> bool
-    requires { ⌜ at + 9 ≤ length (now area) ⌝ }
-    ensures { λ r. ⌜ r ≡ Area·isEntry vertices (take 9 (drop at (now (area .entry)))) ⌝ }
+    requires { ⌜ at + entrySize ≤ length (now area) ⌝ }
+    ensures { λ r. ⌜ r ≡ Area·isEntry vertices (take entrySize (drop at (now (area .entry)))) ⌝ }
 {
     let n = wide(area[at]);
-    if n < 2 {
-        return false;
-    }
     if 8 < n {
         return false;
     }
-    simple(area, at + 1, at + 1 + n, vertices)
+    is_path(area, at + 1, at + 1 + n, vertices)
 }
 
 // The paths are entered into a blank area one after the other, which at the end is to be the area itself.
@@ -76,13 +75,13 @@ pub fn valid(area: &[u8], count: usize, vertices: usize) -> bool
     requires { ⌜ areaSize ≤ length (now area) ⌝ }
     ensures { λ r. ⌜ r ≡ Area·valid vertices (now (area .entry)) count ⌝ }
 {
-    if 256 < count {
+    if MOST_PATHS < count {
         return false;
     }
     let mut clean = [0u8; AREA];
     let mut k = 0;
     while k < count {
-        let at = k * 9;
+        let at = k * ENTRY;
         if !is_entry(area, at, vertices) {
             return false;
         }

@@ -1,24 +1,23 @@
 // Rule sets: which apply to a batch, the forbidden paths that are known then, and the check of a walk against them.
 ghost use mathlib.Core.Path.{_≡_};
-ghost use Rattle.rules.specs.Operations.{binding, areaAfter, checking};
-ghost use Rattle.rules.specs.Operations.{answer as Binding·answer};
+ghost use Rattle.rules.specs.Operations.{binding, boundAs, areaAfter, checking};
 
 mod area;
-mod gather;
+mod binding;
 mod walk;
 
 pub use area::copy;
 pub use area::valid;
+pub use binding::gather;
 use book::Answer;
 use book::Refusal;
-use gather::gather;
 use limits::AREA;
 use limits::MOST_PATHS;
 use limits::MOST_SETS;
 use limits::NO_ARC;
 use limits::PAIRS;
+pub use walk::first_occurrence;
 pub use walk::is_walk;
-pub use walk::search;
 
 pub enum Bound {
     Known(usize),
@@ -34,7 +33,7 @@ pub enum Checked {
 
 // Writes the forbidden paths that are known for a batch with these flags, and answers how many they are.
 pub fn bind(bytes: &[u8], flags: u16, area: &mut [u8]) -> Bound
-    ensures { λ r. ⌜ (r ≡ Binding·answer (binding (now (bytes .entry)) flags (now (area .entry)))) × (now (area .exit) ≡ areaAfter (binding (now (bytes .entry)) flags (now (area .entry))) (now (area .entry))) ⌝ }
+    ensures { λ r. ⌜ (r ≡ boundAs (binding (now (bytes .entry)) flags (now (area .entry)))) × (now (area .exit) ≡ areaAfter (binding (now (bytes .entry)) flags (now (area .entry))) (now (area .entry))) ⌝ }
 {
     let mut weights = [NO_ARC; PAIRS];
     let mut needed = [0u16; MOST_SETS];
@@ -76,7 +75,7 @@ pub fn check(bytes: &[u8], area: &[u8], count: usize, walk: &[u8]) -> Checked
             if !is_walk(&weights, counts.vertices, walk) {
                 return Checked::Refused(Refusal::NotAWalk);
             }
-            search(area, count, walk)
+            first_occurrence(area, count, walk)
         }
     }
 }

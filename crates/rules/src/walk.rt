@@ -2,20 +2,23 @@
 ghost use mathlib.Core.Path.{_≡_};
 ghost use Prim.Native.Nat.{_+_, _*_, _≤_, _<_};
 ghost use lib.ListN.{length, getD};
-ghost use Rattle.book.specs.Book.{Book, All, WellFormed, graph};
-ghost use Rattle.book.specs.Tables.{weightTable};
+ghost use Rattle.book.specs.Book.{Book, All, graph};
+ghost use Rattle.book.specs.Tables.{IsGraph};
+ghost use Rattle.limits.specs.Limits.{entrySize};
 ghost use Rattle.rules.specs.Area.{blocks, spelled};
 ghost use Rattle.rules.specs.Checking.{occurrence, checkable};
 use crate::Checked;
+use limits::ENTRY;
 use limits::LONGEST;
+use limits::MOST_VERTICES;
 use limits::NO_ARC;
 use limits::PAIRS;
 use lists::wide;
 
 // Whether what is to be checked is a walk, and not too long.
 pub fn is_walk(weights: &[u32; PAIRS], vertices: usize, walk: &[u8]) -> bool
-    requires { ⌜ vertices ≤ 64 ⌝ }
-    ensures { λ r. ⌜ ((b : Book) → WellFormed b → vertices ≡ b .count → now (weights .entry) ≡ weightTable (b .arcs) → r ≡ checkable (graph b) (now (walk .entry))) ⌝ }
+    requires { ⌜ ((b : Book) × IsGraph b vertices (now weights)) ⌝ }
+    ensures { λ r. ⌜ ((b : Book) → IsGraph b vertices (now (weights .entry)) → r ≡ checkable (graph b) (now (walk .entry))) ⌝ }
 {
     if LONGEST < walk.len() {
         return false;
@@ -33,7 +36,7 @@ pub fn is_walk(weights: &[u32; PAIRS], vertices: usize, walk: &[u8]) -> bool
         if vertices <= v {
             return false;
         }
-        if weights[u * 64 + v] == NO_ARC {
+        if weights[u * MOST_VERTICES + v] == NO_ARC {
             return false;
         }
         u = v;
@@ -43,8 +46,8 @@ pub fn is_walk(weights: &[u32; PAIRS], vertices: usize, walk: &[u8]) -> bool
 }
 
 // The path that ends earliest and, of those with that end, the shortest: ends, lengths, paths and their vertices in turn.
-pub fn search(area: &[u8], count: usize, walk: &[u8]) -> Checked
-    requires { ⌜ count * 9 ≤ length (now area) ⌝ }
+pub fn first_occurrence(area: &[u8], count: usize, walk: &[u8]) -> Checked
+    requires { ⌜ count * entrySize ≤ length (now area) ⌝ }
     requires { ⌜ All (λ e. getD e 0 0 ≤ 8) (blocks count (now area)) ⌝ }
     ensures { λ r. ⌜ r ≡ occurrence (spelled count (now (area .entry))) (now (walk .entry)) ⌝ }
 {
@@ -56,7 +59,7 @@ pub fn search(area: &[u8], count: usize, walk: &[u8]) -> Checked
             let place = end - n;
             let mut k = 0;
             'paths: while k < count {
-                let at = k * 9;
+                let at = k * ENTRY;
                 k += 1;
                 if wide(area[at]) != n {
                     continue 'paths;

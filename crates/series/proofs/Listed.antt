@@ -10,8 +10,8 @@ use lib.Dec.{eqb, leb, ltb}
 use lib.ListN.{length, getD, take, drop, length-drop}
 use lib.Seq.{getD-drop, drop-drop}
 use Rattle.lists.specs.Test.{and-true}
-use Rattle.trials.specs.Trials.{passed, failed}
-use Rattle.trials.specs.Reports.{isReport, reportIn, sizeOf}
+use Rattle.trial_rules.specs.Trials.{passed, failed}
+use Rattle.series.specs.Reports.{isReport, reportIn, sizeOf}
 
 -- n bytes are left, of which x and y are the first
 abbrev test : ℕ → ℕ → ℕ → Bool

@@ -16,13 +16,13 @@ use Rattle.trial_record.specs.declared.Record.{Record}
 use Rattle.trials.specs.declared.Begun.{Begun}
 use Rattle.trials.specs.declared.Reported.{Reported}
 use Rattle.series.specs.declared.Made.{Made}
-use Rattle.trials.specs.Trials.{Report, State, beginRefusal, after, run, stateAfter}
+use Rattle.trial_rules.specs.Trials.{Report, State, beginRefusal, after, run, stateAfter}
 use Rattle.trials.specs.Operations.{Left, left, begunAs, firstState, beginningOf, beginning, reporting, replayingOf, replaying, recordIn}
-use Rattle.trials.specs.Reports.{isReport, reportIn, sizeOf, reportsOf}
-use Rattle.trials.specs.ReportsLaws.{reports-cons, reports-none}
+use Rattle.series.specs.Reports.{isReport, reportIn, sizeOf, reportsOf}
+use Rattle.series.specs.ReportsLaws.{reports-cons, reports-none}
 use Rattle.series.specs.Making.{madeIf, making}
-use Rattle.trials.specs.Invariant.{Invariant, invariant-begin}
-use Rattle.trials.specs.Whole.{leftBy, reportOn, report-leaves, after-keeps, opened, replay-leaves}
+use Rattle.trial_rules.specs.Invariant.{Invariant, invariant-begin}
+use Rattle.series.specs.Whole.{leftBy, reportOn, report-leaves, after-keeps, opened, replay-leaves}
 
 no-record : {x : Refusal} {r : Record} → Begun.Refused x ≡ Begun.Record r → ⊥
 no-record e = let z : _≡_ {A = ℕ} 0 1 = cc in omega arith

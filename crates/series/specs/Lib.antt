@@ -1,1 +1,4 @@
+pub mod Reports
+pub mod ReportsLaws
 pub mod Making
+pub mod Whole

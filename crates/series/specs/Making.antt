@@ -8,7 +8,7 @@ use Rattle.trials.specs.declared.Reported.{Reported}
 use Rattle.series.specs.declared.Made.{Made}
 use Rattle.series.specs.declared.Made.the-variants.{Report, End}
 use Rattle.trials.specs.Operations.{Left, left, reporting}
-use Rattle.trials.specs.Reports.{isReport, reportIn, sizeOf}
+use Rattle.series.specs.Reports.{isReport, reportIn, sizeOf}
 
 -- What is made of a report that ends at a place.
 abbrev pub madeOf : Left Reported → ℕ → Left Made

@@ -5,7 +5,7 @@ ghost use mathlib.Core.Bool.{true};
 ghost use Prim.Native.Nat.{_+_, _≤_};
 ghost use lib.ListN.{length, drop};
 ghost use Rattle.trials.specs.Operations.{left, recordIn, replaying};
-ghost use Rattle.trials.specs.Reports.{isReport, sizeOf};
+ghost use Rattle.series.specs.Reports.{isReport, sizeOf};
 ghost use Rattle.series.specs.Making.{making};
 use trial_record::Record;
 use trials::Begun;

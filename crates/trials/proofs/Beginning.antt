@@ -31,9 +31,9 @@ use Rattle.planner.proofs.Outcome.{the-type}
 use Rattle.planner.specs.declared.Outcome.the-variants.{Walk, Nothing, Refused}
 use Rattle.planner.specs.Planning.{tests, Planned, PlanningOf, Planning}
 use Rattle.trials.specs.declared.Begun.{Begun}
-use Rattle.trials.specs.Trials.{beginRefusal}
+use Rattle.trial_rules.specs.Trials.{beginRefusal}
 use Rattle.trial_record.specs.declared.Record.{Record}
-use Rattle.trials.specs.Accepted.{begin-accepted}
+use Rattle.trial_rules.specs.Accepted.{begin-accepted}
 use Rattle.trial_record.specs.Steps.{fresh, replanned, Counted}
 use Rattle.trials.specs.Operations.{Left, left, begunAs, firstState, beginningOf, beginning}
 use Rattle.trials.specs.Replanning.{held, chosen-planner, known-set, trialsOf, withAnswer}

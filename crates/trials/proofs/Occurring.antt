@@ -11,8 +11,8 @@ use lib.ListN.{length, getD, drop, drop-of-length-le}
 use lib.Seq.{drop-cons, slice, take-length}
 use Rattle.walks.specs.Avoid.{isPrefix, occurs, occurs-front}
 use Rattle.book.specs.Book.{simple}
-use Rattle.trials.specs.Trials.{takes}
-use Rattle.trials.specs.Tests.{T→true, true→T}
+use Rattle.trial_rules.specs.Trials.{takes}
+use Rattle.trial_rules.specs.Tests.{T→true, true→T}
 
 and-no : (x : Bool) → x && false ≡ false
 and-no true = refl

@@ -18,7 +18,7 @@ use Rattle.limits.specs.Limits.{areaSize, longest}
 use Rattle.trial_record.specs.declared.Record.{Record}
 use Rattle.trials.specs.declared.judge.Judged.{Judged}
 use Rattle.trials.specs.declared.judge.Judged.the-variants.{Standing, Refused}
-use Rattle.trials.specs.Trials.{State, standing, passedIn, isRecord}
+use Rattle.trial_rules.specs.Trials.{State, standing, passedIn, isRecord}
 use Rattle.trials.specs.Operations.{stateOf, barred}
 use Rattle.trials.specs.Judging.{judgedAs}
 

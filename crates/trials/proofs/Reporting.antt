@@ -31,13 +31,13 @@ use Rattle.planner.specs.Planning.{tests, Planned, PlanningIn}
 use Rattle.trial_record.specs.declared.Record.{Record}
 use Rattle.trials.specs.declared.Reported.{Reported}
 use Rattle.trials.specs.declared.judge.Judged.the-variants.{Standing, Refused}
-use Rattle.trials.specs.Trials.{Report, passed, failed, State, ForbiddenSet, areasFit, takes, standing, isNamed, hasRoom, isRecord, passedIn, stageOf, litresOf, lengthOf, step}
+use Rattle.trial_rules.specs.Trials.{Report, passed, failed, State, ForbiddenSet, areasFit, takes, standing, isNamed, hasRoom, isRecord, passedIn, stageOf, litresOf, lengthOf, step}
 use Rattle.trial_record.specs.Steps.{passedOf, failedOf, replanned, Counted}
 use Rattle.trials.specs.Operations.{left, stateOf, barred, reportRefusal, reportedAs, reportingOf}
 use Rattle.trials.specs.OperationLaws.{asked, refused-before, all-asked, set-paths, set-once, Passed, passed-tests}
 use Rattle.trials.specs.Judging.{judgedAs}
-use Rattle.trials.specs.Tests.{takes→IsPath}
-use Rattle.trials.specs.Invariant.{one-more}
+use Rattle.trial_rules.specs.Tests.{takes→IsPath}
+use Rattle.trial_rules.specs.Invariant.{one-more}
 use Rattle.trials.specs.Replanning.{Held, held, chosen-planner}
 
 -- ---- what the judgement tells

@@ -19,7 +19,7 @@ use Rattle.rules.specs.Checking.{checkable, occurrence}
 use Rattle.rules.specs.CheckLaws.{clear→Avoids, Avoids→clear}
 use Rattle.rules.specs.Sets.{iff, refuted}
 use Rattle.rules.specs.ValidLaws.{valid→Valid}
-use Rattle.trials.specs.Tests.{T→true, true→T}
+use Rattle.trial_rules.specs.Tests.{T→true, true→T}
 
 pub only-walk : (g : Graph) (w : List ℕ) → length w ≤ longest → checkable g w ≡ isWalk g w
 only-walk g w few = ap (λ x. x && isWalk g w) (le-leb _ _ few)

@@ -1,15 +1,4 @@
-pub mod Trials
-pub mod Reports
-pub mod ReportsLaws
 pub mod Operations
 pub mod Replanning
 pub mod Judging
-pub mod Tests
-pub mod Plans
-pub mod Accepted
 pub mod OperationLaws
-pub mod Lacking
-pub mod Invariant
-pub mod Claim
-pub mod Oracle
-pub mod Whole

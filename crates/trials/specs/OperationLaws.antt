@@ -22,10 +22,10 @@ use Rattle.rules.specs.AreaLaws.{length-blocks}
 use Rattle.rules.specs.ValidLaws.{valid→Valid, written-length, written-valid, written-spells}
 use Rattle.automaton.specs.Chosen.{chosen}
 use Rattle.trial_record.specs.declared.Record.{Record}
-use Rattle.trials.specs.Trials.{Report, State, pathArea, areasFit, isNamed, hasRoom, ForbiddenSet, isForbiddenSet, isRecord, isValid, Valid, refusal, step}
+use Rattle.trial_rules.specs.Trials.{Report, State, pathArea, areasFit, isNamed, hasRoom, ForbiddenSet, isForbiddenSet, isRecord, isValid, Valid, refusal, step}
 use Rattle.trials.specs.Operations.{stateOf, reportRefusal, reportedAs, reportingOf}
-use Rattle.trials.specs.Tests.{T→true, true→T, takes→IsPath, forbidden-set, once→Distinct, Distinct→once, →isForbiddenSet, Valid→isValid, isValid→Valid}
-use Rattle.trials.specs.Accepted.{Accepts, accepts}
+use Rattle.trial_rules.specs.Tests.{T→true, true→T, takes→IsPath, forbidden-set, once→Distinct, Distinct→once, →isForbiddenSet, Valid→isValid, isValid→Valid}
+use Rattle.trial_rules.specs.Accepted.{Accepts, accepts}
 
 -- ---- the refusal, by what its tests say
 abbrev pub asked : Bool → Bool → Bool → Bool → Bool → Option Refusal

@@ -16,8 +16,8 @@ use Rattle.trial_record.specs.declared.Record.{Record}
 use Rattle.trials.specs.declared.Begun.{Begun}
 use Rattle.trials.specs.declared.Reported.{Reported}
 use Rattle.automaton.specs.Chosen.{chosen}
-use Rattle.trials.specs.Reports.{reportsOf}
-use Rattle.trials.specs.Trials.{Report, State, pathArea, areasFit, beginRefusal, isRecord, isNamed, hasRoom, begin, step, run}
+use Rattle.series.specs.Reports.{reportsOf}
+use Rattle.trial_rules.specs.Trials.{Report, State, pathArea, areasFit, beginRefusal, isRecord, isNamed, hasRoom, begin, step, run}
 
 -- An operation's answer, and every byte of the runs area and of the line-up area after it.
 pub record Left (A : Type 0) : Type 0 where

@@ -16,10 +16,10 @@ use Rattle.planner.specs.declared.Outcome.the-variants.{Walk, Nothing, Refused}
 use Rattle.limits.specs.Limits.{longest}
 use Rattle.planner.specs.Planning.{Planned}
 use Rattle.trial_record.specs.declared.Record.{Record}
-use Rattle.trials.specs.Trials.{ForbiddenSet, Plan, Planner, Begin, beginRefusal, stageOf, litresOf, lengthOf, overlaid}
+use Rattle.trial_rules.specs.Trials.{ForbiddenSet, Plan, Planner, Begin, beginRefusal, stageOf, litresOf, lengthOf, overlaid}
 use Rattle.trial_record.specs.Steps.{withPlan, replanned, Counted}
-use Rattle.trials.specs.Tests.{takes→IsPath, true→T, once→Distinct, forbidden-set}
-use Rattle.trials.specs.Plans.{plan-best, plan-none}
+use Rattle.trial_rules.specs.Tests.{takes→IsPath, true→T, once→Distinct, forbidden-set}
+use Rattle.trial_rules.specs.Plans.{plan-best, plan-none}
 
 -- The chosen walk is a planner's answer, in every book that is read.
 pub chosen-planner : (b : Book) → WellFormed b → Planner (graph b) (chosen (graph b))

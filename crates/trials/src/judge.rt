@@ -11,7 +11,7 @@ ghost use Rattle.walks.specs.Avoid.{occurs as Avoid·occurs};
 ghost use Rattle.book.specs.Book.{Book, graph};
 ghost use Rattle.rules.specs.Area.{spelled, valid};
 ghost use Rattle.limits.specs.Limits.{areaSize, longest};
-ghost use Rattle.trials.specs.Trials.{takes, passedIn, isRecord};
+ghost use Rattle.trial_rules.specs.Trials.{takes, passedIn, isRecord};
 ghost use Rattle.trials.specs.Operations.{stateOf, barred};
 ghost use Rattle.trials.specs.Judging.{IsOf, judgedAs};
 use book::Refusal;

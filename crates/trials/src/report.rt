@@ -7,7 +7,7 @@ ghost use lib.Seq.{paste};
 ghost use Rattle.book.specs.Book.{Book, graph};
 ghost use Rattle.book.specs.Reading.{accepted};
 ghost use Rattle.trials.specs.declared.Reported.the-variants.{Accepted};
-ghost use Rattle.trials.specs.Trials.{passed, failed};
+ghost use Rattle.trial_rules.specs.Trials.{passed, failed};
 ghost use Rattle.trials.specs.Operations.{left, reportRefusal, reportingOf, reporting};
 ghost use Rattle.trials.specs.Judging.{IsOf};
 use crate::Reported;

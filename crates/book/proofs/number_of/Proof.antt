@@ -1,6 +1,6 @@
--- `number_of` meets its contract: in each arm, the number that `told` gives.
+-- `number_of` meets its contract: in each arm, the number that `numberOf` gives.
 use mathlib.Core.Path.{sym, ap, _∙_}
-use Rattle.book.specs.Refusal.{told}
+use Rattle.book.specs.Refusal.{numberOf}
 use borrow.Author.Needs.{needs}
 use Rattle.book.proofs.number_of.Statement.{statement}
 use Rattle.book.proofs.number_of.Tie as tie
@@ -84,43 +84,43 @@ bare-requires-7 : tie.Need-bare-requires-7
 bare-requires-7 c κs = search needs
 
 returns : tie.Need-returns
-returns c = c .placed .ensures ∙ sym (ap told (c .before .before .r .given .1))
+returns c = c .placed .ensures ∙ sym (ap numberOf (c .before .before .r .given .1))
 
 returns-2 : tie.Need-returns-2
-returns-2 c = c .placed2 .ensures ∙ sym (ap told (c .before .before .r2 .given .1))
+returns-2 c = c .placed2 .ensures ∙ sym (ap numberOf (c .before .before .r2 .given .1))
 
 returns-3 : tie.Need-returns-3
-returns-3 c = c .placed3 .ensures ∙ sym (ap told (c .before .before .r3 .given .1))
+returns-3 c = c .placed3 .ensures ∙ sym (ap numberOf (c .before .before .r3 .given .1))
 
 returns-4 : tie.Need-returns-4
-returns-4 c = c .placed4 .ensures ∙ sym (ap told (c .before .before .r4 .given .1))
+returns-4 c = c .placed4 .ensures ∙ sym (ap numberOf (c .before .before .r4 .given .1))
 
 returns-5 : tie.Need-returns-5
-returns-5 c = c .placed5 .ensures ∙ sym (ap told (c .before .before .r5 .given .1))
+returns-5 c = c .placed5 .ensures ∙ sym (ap numberOf (c .before .before .r5 .given .1))
 
 returns-6 : tie.Need-returns-6
-returns-6 c = c .placed6 .ensures ∙ sym (ap told (c .before .before .r6 .given .1))
+returns-6 c = c .placed6 .ensures ∙ sym (ap numberOf (c .before .before .r6 .given .1))
 
 returns-7 : tie.Need-returns-7
-returns-7 c = c .bare .ensures ∙ sym (ap told (c .before .enum-told .given .1))
+returns-7 c = c .bare .ensures ∙ sym (ap numberOf (c .before .enum-told .given .1))
 
 returns-8 : tie.Need-returns-8
-returns-8 c = c .bare2 .ensures ∙ sym (ap told (c .before .enum-told2 .given .1))
+returns-8 c = c .bare2 .ensures ∙ sym (ap numberOf (c .before .enum-told2 .given .1))
 
 returns-9 : tie.Need-returns-9
-returns-9 c = c .bare3 .ensures ∙ sym (ap told (c .before .enum-told3 .given .1))
+returns-9 c = c .bare3 .ensures ∙ sym (ap numberOf (c .before .enum-told3 .given .1))
 
 returns-10 : tie.Need-returns-10
-returns-10 c = c .bare4 .ensures ∙ sym (ap told (c .before .enum-told4 .given .1))
+returns-10 c = c .bare4 .ensures ∙ sym (ap numberOf (c .before .enum-told4 .given .1))
 
 returns-11 : tie.Need-returns-11
-returns-11 c = c .bare5 .ensures ∙ sym (ap told (c .before .enum-told5 .given .1))
+returns-11 c = c .bare5 .ensures ∙ sym (ap numberOf (c .before .enum-told5 .given .1))
 
 returns-12 : tie.Need-returns-12
-returns-12 c = c .bare6 .ensures ∙ sym (ap told (c .before .enum-told6 .given .1))
+returns-12 c = c .bare6 .ensures ∙ sym (ap numberOf (c .before .enum-told6 .given .1))
 
 returns-13 : tie.Need-returns-13
-returns-13 c = c .bare7 .ensures ∙ sym (ap told (c .before .enum-told7 .given .1))
+returns-13 c = c .bare7 .ensures ∙ sym (ap numberOf (c .before .enum-told7 .given .1))
 
 pub number-of-spec : {M : Type 1} → statement M
 number-of-spec =

@@ -4,7 +4,7 @@ use denote.Ref.{now}
 use mathlib.Core.Path.{refl, sym, subst, _∙_}
 use Rattle.book.specs.BookLaws.{answer-refused}
 use Rattle.book.specs.Reading.{reading}
-use Rattle.rules.proofs.Loaded.{Loaded, loaded, vertices-are}
+use Rattle.book.specs.Loaded.{Loaded, loaded}
 use Rattle.planner.specs.declared.Outcome.the-variants.{Refused}
 use Rattle.planner.specs.Planning.{PlanningOf}
 use Rattle.planner.proofs.plan.Statement.{statement}
@@ -42,7 +42,7 @@ book c =
 plan-in-requires : tie.Need-plan-in-requires
 plan-in-requires c κs =
     let b = book (c .before .before) in
-    (b .book, b .well, vertices-are _ _ _ _ _ _ b, b .tables .weights-are)
+    (b .book, b .graph)
 
 returns-2 : tie.Need-returns-2
 returns-2 c =
@@ -51,7 +51,7 @@ returns-2 c =
     let b = book read in
     let a = read .before .before .before .before .before .before .before .before .before .before .before .args in
     subst (λ x. PlanningOf x (now (a .paths)) (a .count) (a .start) (a .end) (now (a .walk)) (call .plan-in .result) (call .plan-in .last .1 .1 .1 .1 .1 .1 .0))
-    (sym (b .is)) (call .plan-in .ensures (b .book) (b .well) (vertices-are _ _ _ _ _ _ b) (b .tables .weights-are))
+    (sym (b .is)) (call .plan-in .ensures (b .book) (b .graph))
 
 pub plan-spec : {M : Type 1} → statement M
 plan-spec =

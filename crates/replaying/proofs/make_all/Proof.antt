@@ -12,8 +12,8 @@ use Rattle.trials.specs.declared.Reported.{Reported}
 use Rattle.series.specs.declared.Made.{Made}
 use Rattle.trials.specs.Operations.{Left, left, reporting}
 use Rattle.series.specs.Making.{madeIf, making}
-use Rattle.trials.specs.Reports.{isReport, reportIn, sizeOf}
-use Rattle.trials.specs.ReportsLaws.{size-positive}
+use Rattle.series.specs.Reports.{isReport, reportIn, sizeOf}
+use Rattle.series.specs.ReportsLaws.{size-positive}
 use Rattle.replaying.proofs.make_all.Statement.{statement}
 use Rattle.replaying.proofs.make_all.Tie as tie
 

@@ -6,9 +6,8 @@ use lib.ListN.{length}
 use Rattle.rules.specs.Area.{written}
 use Rattle.rules.specs.Binding.{known}
 use Rattle.book.specs.BookLaws.{answer-refused}
-use Rattle.rules.proofs.Loaded.{Loaded, loaded, listed, few-paths, owners-fit, entries-length}
+use Rattle.book.specs.Loaded.{Loaded, loaded, sets-entries}
 use Rattle.rules.proofs.Binds.{bind-refused, bind-small, bind-known}
-use borrow.Author.Needs.{needs}
 use borrow.Author.Needs.{needs}
 use Rattle.rules.proofs.bind.Statement.{statement}
 use Rattle.rules.proofs.bind.Tie as tie
@@ -37,7 +36,7 @@ gathered : (c : tie.After-gather)
     (c .gather .result ≡ length F) × (c .gather .last .1 .1 .1 .1 .1 .0 ≡ written F)
 gathered c =
     let read = c .before .before .before .before .before .before .before in
-    c .gather .ensures (book read .book .sets) (listed _ _ _ _ _ _ (book read)) refl
+    c .gather .ensures (book read .book) (book read .sets)
 
 returns : tie.Need-returns
 returns c =
@@ -46,7 +45,7 @@ returns c =
     bind-small (now (a .bytes)) (a .flags) (now (a .area)) (book read .book) (book read .is) (c .if1 .taken)
 
 slice-aggregate-gather : tie.Need-slice-aggregate-gather
-slice-aggregate-gather c = sym (entries-length _ _ _ _ _ _ (book (c .before .before .before .before .before)))
+slice-aggregate-gather c = sym (sets-entries (book (c .before .before .before .before .before) .sets))
 
 slice-aggregate-gather-2 : tie.Need-slice-aggregate-gather-2
 slice-aggregate-gather-2 c = search needs
@@ -54,7 +53,7 @@ slice-aggregate-gather-2 c = search needs
 gather-requires : tie.Need-gather-requires
 gather-requires c κs =
     let b = book (c .before .before .before .before .before .before) in
-    (few-paths _ _ _ _ _ _ b, (owners-fit _ _ _ _ _ _ b, (omega (arith, entries-length _ _ _ _ _ _ b), omega arith)))
+    ((b .book, b .sets), refl)
 
 slice-aggregate-copy : tie.Need-slice-aggregate-copy
 slice-aggregate-copy c = search needs
@@ -78,7 +77,7 @@ returns-3 c =
     let read = gather .before .before .before .before .before .before .before in
     let a = read .before .before .before .before .before .before .before .before .before .args in
     let b = book read in
-    bind-known (now (a .bytes)) (a .flags) (now (a .area)) (b .book) (b .is) (b .well) (gather .before .before .before .before .before .if1 .left) _ _ _ (gathered gather .0) (gathered gather .1) (copied .copy .ensures)
+    bind-known (now (a .bytes)) (a .flags) (now (a .area)) (b .book) (b .is) (b .graph .well) (gather .before .before .before .before .before .if1 .left) _ _ _ (gathered gather .0) (gathered gather .1) (copied .copy .ensures)
 
 pub bind-spec : {M : Type 1} → statement M
 bind-spec =

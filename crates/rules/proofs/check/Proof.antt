@@ -2,16 +2,16 @@
 use mathlib.Core.Bool.{Bool}
 use mathlib.Core.Path.{_≡_, sym, ap, _∙_}
 use native.Mathlib.Omega.{arith}
-use borrow.Author.Tests.{not-true, not-false}
+use borrow.Author.Tests.{not-true, not-false, le-leb, lt-leb}
 use denote.Ref.{now}
 use Rattle.book.specs.Book.{graph}
 use Rattle.rules.specs.Area.{valid}
 use Rattle.rules.specs.Checking.{checkable}
 use Rattle.rules.specs.ValidLaws.{valid-fits}
 use Rattle.book.specs.BookLaws.{answer-refused}
-use Rattle.rules.proofs.Loaded.{Loaded, loaded, vertices-are, few-vertices}
-use Rattle.rules.proofs.Checks.{check-refused, check-small, check-invalid, check-not-walk, check-done}
-use borrow.Author.Needs.{needs}
+use Rattle.book.specs.Loaded.{Loaded, loaded}
+use Rattle.book.specs.RefusalLaws.{here, later}
+use Rattle.rules.proofs.Checks.{check-refused, check-fails, check-done}
 use borrow.Author.Needs.{needs}
 use Rattle.rules.proofs.check.Statement.{statement}
 use Rattle.rules.proofs.check.Tie as tie
@@ -41,7 +41,7 @@ judged : (c : tie.After-valid) (x : Bool) → c .valid .result ≡ x
 judged c x e =
     let read = c .before .before .before in
     let a = read .before .before .before .before .before .before .before .before .before .before .args in
-    ap (λ n. valid n (now (a .area)) (a .count)) (sym (vertices-are _ _ _ _ _ _ (book read))) ∙ sym (c .valid .ensures) ∙ e
+    ap (λ n. valid n (now (a .area)) (a .count)) (sym (book read .graph .vertices-are)) ∙ sym (c .valid .ensures) ∙ e
 
 -- the test of the walk
 walked : (c : tie.After-is-walk) (x : Bool) → c .is-walk .result ≡ x
@@ -50,13 +50,13 @@ walked : (c : tie.After-is-walk) (x : Bool) → c .is-walk .result ≡ x
     checkable (graph (book read .book)) (now (a .walk)) ≡ x
 walked c x e =
     let b = book (c .before .before .before .before .before .before) in
-    sym (c .is-walk .ensures (b .book) (b .well) (vertices-are _ _ _ _ _ _ b) (b .tables .weights-are)) ∙ e
+    sym (c .is-walk .ensures (b .book) (b .graph)) ∙ e
 
 returns : tie.Need-returns
 returns c =
     let read = c .before .before in
     let a = read .before .before .before .before .before .before .before .before .before .before .args in
-    check-small (now (a .bytes)) (now (a .area)) (a .count) (now (a .walk)) (book read .book) (book read .is) (c .if1 .taken)
+    check-fails (now (a .bytes)) (now (a .area)) (a .count) (now (a .walk)) (book read .book) (book read .is) (here (lt-leb _ _ (c .if1 .taken)))
 
 valid-requires : tie.Need-valid-requires
 valid-requires c κs = search needs
@@ -66,11 +66,11 @@ returns-2 c =
     let valid = c .before in
     let read = valid .before .before .before in
     let a = read .before .before .before .before .before .before .before .before .before .before .args in
-    check-invalid (now (a .bytes)) (now (a .area)) (a .count) (now (a .walk)) (book read .book) (book read .is) (valid .before .if1 .left)
-    (judged valid _ (not-true (valid .valid .result) (c .if2 .taken)))
+    check-fails (now (a .bytes)) (now (a .area)) (a .count) (now (a .walk)) (book read .book) (book read .is)
+    (later (le-leb _ _ (valid .before .if1 .left)) (here (judged valid _ (not-true (valid .valid .result) (c .if2 .taken)))))
 
 is-walk-requires : tie.Need-is-walk-requires
-is-walk-requires c κs = few-vertices _ _ _ _ _ _ (book (c .before .before .before .before .before))
+is-walk-requires c κs = let b = book (c .before .before .before .before .before) in (b .book, b .graph)
 
 returns-3 : tie.Need-returns-3
 returns-3 c =
@@ -79,12 +79,12 @@ returns-3 c =
     let valid = else2 .before in
     let read = valid .before .before .before in
     let a = read .before .before .before .before .before .before .before .before .before .before .args in
-    check-not-walk (now (a .bytes)) (now (a .area)) (a .count) (now (a .walk)) (book read .book) (book read .is) (valid .before .if1 .left)
-    (judged valid _ (not-false (valid .valid .result) (else2 .if2 .left)))
-    (walked walk _ (not-true (walk .is-walk .result) (c .if3 .taken)))
+    check-fails (now (a .bytes)) (now (a .area)) (a .count) (now (a .walk)) (book read .book) (book read .is)
+    (later (le-leb _ _ (valid .before .if1 .left))
+    (later (judged valid _ (not-false (valid .valid .result) (else2 .if2 .left))) (here (walked walk _ (not-true (walk .is-walk .result) (c .if3 .taken))))))
 
-search-requires : tie.Need-search-requires
-search-requires c κs =
+first-occurrence-requires : tie.Need-first-occurrence-requires
+first-occurrence-requires c κs =
     let else2 = c .before .before .before in
     let valid = else2 .before in
     let read = valid .before .before .before in
@@ -106,10 +106,11 @@ returns-5 c =
     let valid = else2 .before in
     let read = valid .before .before .before in
     let a = read .before .before .before .before .before .before .before .before .before .before .args in
-    c .search .ensures
-    ∙ check-done (now (a .bytes)) (now (a .area)) (a .count) (now (a .walk)) (book read .book) (book read .is) (valid .before .if1 .left)
-    (judged valid _ (not-false (valid .valid .result) (else2 .if2 .left)))
-    (walked walk _ (not-false (walk .is-walk .result) (else3 .if3 .left)))
+    c .first-occurrence .ensures
+    ∙ check-done (now (a .bytes)) (now (a .area)) (a .count) (now (a .walk)) (book read .book) (book read .is) (
+      le-leb _ _ (valid .before .if1 .left),
+      (judged valid _ (not-false (valid .valid .result) (else2 .if2 .left)), (walked walk _ (not-false (walk .is-walk .result) (else3 .if3 .left)), tt)),
+    )
 
 pub check-spec : {M : Type 1} → statement M
 check-spec =
@@ -123,6 +124,6 @@ check-spec =
     returns-2
     is-walk-requires
     returns-3
-    search-requires
+    first-occurrence-requires
     returns-4
     returns-5)

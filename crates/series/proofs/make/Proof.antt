@@ -7,9 +7,9 @@ use mathlib.Core.Bool.{Bool, true}
 use mathlib.Core.Path.{_≡_, sym, ap, ap₂, _∙_}
 use lib.ListN.{getD, take, drop}
 use Prim.Native.Nat.{_+_, _-_}
-use Rattle.trials.specs.Trials.{failed}
+use Rattle.trial_rules.specs.Trials.{failed}
 use Rattle.trials.specs.Operations.{reporting}
-use Rattle.trials.specs.Reports.{isReport, reportIn, sizeOf}
+use Rattle.series.specs.Reports.{isReport, reportIn, sizeOf}
 use Rattle.series.specs.Making.{madeOf, madeIf}
 use Rattle.series.proofs.Listed.{inside, named-inside, failed-size, passed-report, failed-report}
 use Rattle.series.proofs.make.Statement.{statement}

@@ -8,8 +8,8 @@ use lib.ListN.{length, drop}
 use Prim.Native.Nat.{ℕ, _+_, _-_}
 use Rattle.trial_record.specs.declared.Record.{Record}
 use Rattle.trials.specs.Operations.{left, recordIn}
-use Rattle.trials.specs.Reports.{sizeOf}
-use Rattle.trials.specs.ReportsLaws.{size-positive}
+use Rattle.series.specs.Reports.{sizeOf}
+use Rattle.series.specs.ReportsLaws.{size-positive}
 use Rattle.series.proofs.Listed.{at-end}
 use Rattle.series.proofs.Replaying.{Replayed, not-begun, replayed-begin, replayed-end, replayed-made, replayed-last}
 use Rattle.series.proofs.replay.Statement.{statement}

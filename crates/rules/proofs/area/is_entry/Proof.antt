@@ -1,12 +1,11 @@
--- `area::is_entry` meets its contract: the length, and then the vertices.
+-- `area::is_entry` meets its contract: the length, and then the path.
 use Prim.Native.Nat.{_+_}
 use mathlib.Core.Path.{sym, ap, _∙_}
 use native.Mathlib.Omega.{arith}
 use denote.Ref.{now}
 use lib.Seq.{slice}
-use Rattle.book.specs.Book.{simple}
-use Rattle.rules.proofs.Entries.{entry-short, entry-long, entry-simple}
-use borrow.Author.Needs.{needs}
+use Rattle.book.specs.Book.{isPath}
+use Rattle.rules.proofs.Entries.{entry-long, entry-path}
 use borrow.Author.Needs.{needs}
 use Rattle.rules.proofs.area.is_entry.Statement.{statement}
 use Rattle.rules.proofs.area.is_entry.Tie as tie
@@ -20,42 +19,26 @@ wide-requires c κs = search needs
 returns : tie.Need-returns
 returns c =
     let a = c .before .before .before .before .args in
-    sym (entry-short (now (a .area)) (a .at) (a .vertices) (omega arith))
+    sym (entry-long (now (a .area)) (a .at) (a .vertices) (omega arith))
+
+add-is-path : tie.Need-add-is-path
+add-is-path c = search needs
+
+add-is-path-2 : tie.Need-add-is-path-2
+add-is-path-2 c = search needs
+
+add-is-path-3 : tie.Need-add-is-path-3
+add-is-path-3 c = search needs
+
+is-path-requires : tie.Need-is-path-requires
+is-path-requires c κs = search needs
 
 returns-2 : tie.Need-returns-2
 returns-2 c =
     let a = c .before .before .before .before .before .args in
-    sym (entry-long (now (a .area)) (a .at) (a .vertices) (omega arith) (omega arith))
-
-add-simple : tie.Need-add-simple
-add-simple c = search needs
-
-add-simple-2 : tie.Need-add-simple-2
-add-simple-2 c = search needs
-
-add-simple-3 : tie.Need-add-simple-3
-add-simple-3 c = search needs
-
-simple-requires : tie.Need-simple-requires
-simple-requires c κs = search needs
-
-returns-3 : tie.Need-returns-3
-returns-3 c =
-    let a = c .before .before .before .before .before .before .args in
-    c .simple .ensures
-    ∙ ap (λ n. simple (a .vertices) (slice (a .at + 1) (a .at + 1 + n) (now (a .area)))) (c .before .before .before .wide .ensures .0)
-    ∙ sym (entry-simple (now (a .area)) (a .at) (a .vertices) (omega arith) (omega arith) (omega arith))
+    c .is-path .ensures
+    ∙ ap (λ n. isPath (a .vertices) (slice (a .at + 1) (a .at + 1 + n) (now (a .area)))) (c .before .before .wide .ensures .0)
+    ∙ sym (entry-path (now (a .area)) (a .at) (a .vertices) (omega arith) (omega arith))
 
 pub is-entry-spec : {M : Type 1} → statement M
-is-entry-spec =
-    tie.close
-    (tie.spec
-    shared-slice-read-wide
-    wide-requires
-    returns
-    returns-2
-    add-simple
-    add-simple-2
-    add-simple-3
-    simple-requires
-    returns-3)
+is-entry-spec = tie.close (tie.spec shared-slice-read-wide wide-requires returns add-is-path add-is-path-2 add-is-path-3 is-path-requires returns-2)

@@ -7,7 +7,7 @@ use lib.ListN.{length}
 use lib.Seq.{length-take-le}
 use Rattle.book.specs.Book.{graph}
 use Rattle.trials.specs.Operations.{stateOf}
-use Rattle.trials.specs.Trials.{passedIn}
+use Rattle.trial_rules.specs.Trials.{passedIn}
 use Rattle.trials.proofs.Recorded.{bad-stage, bad-start, bad-end, bad-sum, bad-passed, bad-length, over-short, over-long, not-over}
 use borrow.Author.Needs.{needs}
 use Rattle.trials.proofs.judge.is_record.Statement.{statement}

@@ -7,7 +7,7 @@ use Rattle.book.specs.Book.{Book, graph}
 use Rattle.rules.specs.Area.{valid}
 use Rattle.trials.specs.Operations.{stateOf}
 use Rattle.trials.specs.Judging.{IsOf}
-use Rattle.trials.specs.Trials.{isRecord}
+use Rattle.trial_rules.specs.Trials.{isRecord}
 use Rattle.trials.proofs.Recorded.{small-paths, small-walk, bad-paths, bad-record, ended, stands}
 use borrow.Author.Needs.{needs}
 use Rattle.trials.proofs.judge.judge.Statement.{statement}

@@ -10,7 +10,7 @@ use lib.Seq.{length-take-le}
 use Rattle.walks.specs.Avoid.{occurs}
 use Rattle.book.specs.Book.{Book, graph}
 use Rattle.trials.specs.declared.judge.Judged.the-variants.{Standing}
-use Rattle.trials.specs.Trials.{failed, takes, isNamed}
+use Rattle.trial_rules.specs.Trials.{failed, takes, isNamed}
 use Rattle.trials.specs.Operations.{stateOf, barred, reportRefusal}
 use Rattle.trials.specs.Judging.{IsOf, judgedAs}
 use Rattle.trials.proofs.Reporting.{refused, walk-fits, not-standing, no-room, ready}

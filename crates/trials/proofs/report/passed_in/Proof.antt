@@ -4,7 +4,7 @@ use denote.Ref.{now}
 use mathlib.Core.Path.{sym, ap, _∙_}
 use Rattle.trial_record.specs.declared.Record.{Record}
 use Rattle.trials.specs.declared.Reported.{Reported}
-use Rattle.trials.specs.Trials.{passed}
+use Rattle.trial_rules.specs.Trials.{passed}
 use Rattle.trials.specs.Operations.{left}
 use Rattle.trials.proofs.Reporting.{refused, has-passed}
 use Rattle.trials.proofs.report.passed_in.Statement.{statement}

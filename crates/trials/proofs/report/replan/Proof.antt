@@ -12,7 +12,7 @@ use Rattle.limits.specs.Limits.{areaSize}
 use Rattle.planner.specs.Planning.{PlanningIn}
 use Rattle.trial_record.specs.declared.Record.{Record}
 use Rattle.trials.specs.declared.Reported.{Reported}
-use Rattle.trials.specs.Trials.{failed}
+use Rattle.trial_rules.specs.Trials.{failed}
 use Rattle.trial_record.specs.Steps.{replanned}
 use Rattle.trials.specs.Operations.{left, reportRefusal}
 use Rattle.trials.specs.Judging.{IsOf}

@@ -8,8 +8,8 @@ use borrow.Author.Tests.{ltb-true}
 use lib.Dec.{eqb, ltb}
 use lib.ListN.{length, getD, drop, length-drop}
 use Rattle.lists.specs.Test.{and-true}
-use Rattle.trials.specs.Trials.{Report}
-use Rattle.trials.specs.Reports.{isReport, reportIn, sizeOf, reportsIn, reportsOf}
+use Rattle.trial_rules.specs.Trials.{Report}
+use Rattle.series.specs.Reports.{isReport, reportIn, sizeOf, reportsIn, reportsOf}
 
 some-byte : (l : List ℕ) → isReport l ≡ true → 0 < length l
 some-byte l e = ltb-true 0 (length l) (and-true (ltb 0 (length l)) _ e .0)

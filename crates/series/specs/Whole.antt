@@ -9,16 +9,16 @@ use Rattle.book.specs.Book.{Book, graph}
 use Rattle.book.specs.BookLaws.{reading-is-book}
 use Rattle.book.specs.Reading.{accepted, reading}
 use Rattle.trial_record.specs.declared.Record.{Record}
 use Rattle.trials.specs.declared.Begun.{Begun}
 use Rattle.trials.specs.declared.Reported.{Reported}
-use Rattle.trials.specs.Trials.{Report, State, pathArea, beginRefusal, refusal, Valid, unless, step, after, run, Begin, begun, stateAfter, acceptedOf}
+use Rattle.trial_rules.specs.Trials.{Report, State, pathArea, beginRefusal, refusal, Valid, unless, step, after, run, Begin, begun, stateAfter, acceptedOf}
 use Rattle.trials.specs.Operations.{Left, left, begunAs, beginningOf, beginning, reportedAs, reportingOf, reporting, replayingOf, replaying, recordIn}
 use Rattle.trials.specs.OperationLaws.{same-step}
-use Rattle.trials.specs.Reports.{reportsOf}
+use Rattle.series.specs.Reports.{reportsOf}
 use Rattle.trials.specs.Replanning.{trialsOf}
-use Rattle.trials.specs.Invariant.{Invariant, invariant-begin, invariant-step}
-use Rattle.trials.specs.Claim.{Claim, claim}
-use Rattle.trials.specs.Oracle.{OracleSet, TrueOracle, Outcome, oracle}
+use Rattle.trial_rules.specs.Invariant.{Invariant, invariant-begin, invariant-step}
+use Rattle.trial_rules.specs.Claim.{Claim, claim}
+use Rattle.trial_rules.specs.Oracle.{OracleSet, TrueOracle, Outcome, oracle}
 
 -- What a state leaves: its record, and every byte of both areas.
 abbrev pub leftBy : State → Left Record

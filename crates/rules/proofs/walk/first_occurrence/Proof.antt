@@ -1,4 +1,4 @@
--- `walk::search` meets its contract: at each turn of each loop, the answer for the whole is the answer for what is left.
+-- `walk::first_occurrence` meets its contract: at each turn of each loop, the answer for the whole is the answer for what is left.
 use Prim.Native.Nat.{_+_, _-_, _*_, _≤_}
 use mathlib.Core.Logic.{⊎-elim}
 use mathlib.Core.Path.{_≡_, refl, sym, ap, _∙_}
@@ -16,8 +16,8 @@ use Rattle.rules.specs.Checking.{endsAt, someEnds, firstFrom, namedAt, c
 use Rattle.rules.proofs.Parts.{parts-past, parts-differ, parts-next}
 use Rattle.rules.proofs.Searched.{first-here, first-later, ends-past, ends-here, ends-later, lengths-past, lengths-done, paths-start, paths-past, other-length, differs, stands}
 use borrow.Author.Needs.{needs}
-use Rattle.rules.proofs.walk.search.Statement.{statement}
-use Rattle.rules.proofs.walk.search.Tie as tie
+use Rattle.rules.proofs.walk.first_occurrence.Statement.{statement}
+use Rattle.rules.proofs.walk.first_occurrence.Tie as tie
 
 abbrev Inv-loop2 : tie.InvT-loop2
 Inv-loop2 area count walk answer end n place k at i₀ i =
@@ -320,8 +320,8 @@ returns-2 c =
     let named = sym (at-loop .loop .inv .3) ∙ first-here (someEnds (spelled (a .count) (now (a .area))) (now (a .walk)) end) n (omega arith) found in
     sym (ends-here (spelled (a .count) (now (a .area))) (now (a .walk)) end ends n named) ∙ at-ends .ends .inv .3
 
-pub search-spec : {M : Type 1} → statement M
-search-spec =
+pub first-occurrence-spec : {M : Type 1} → statement M
+first-occurrence-spec =
     tie.close
     (tie.spec
     Inv-loop2

@@ -16,9 +16,9 @@ use Rattle.walks.specs.Best.{Best, None}
 use Rattle.book.specs.declared.Refusal.{Refusal}
 use Rattle.limits.specs.Limits.{mostPaths, areaSize, longest}
 use Rattle.automaton.specs.Chosen.{Decided}
-use Rattle.trials.specs.Trials.{Report, passed, failed, State, standing, takes, ForbiddenSet, Valid, Plan, Planner, refusal, overlaid, holding, step, unless, after, run, accepted, EachAccepted, named, failures, passes, replanned, Begin, begun}
-use Rattle.trials.specs.Lacking.{distinct-snoc}
-use Rattle.trials.specs.Accepted.{begin-accepted, Accepts, accepts}
+use Rattle.trial_rules.specs.Trials.{Report, passed, failed, State, standing, takes, ForbiddenSet, Valid, Plan, Planner, refusal, overlaid, holding, step, unless, after, run, accepted, EachAccepted, named, failures, passes, replanned, Begin, begun}
+use Rattle.trial_rules.specs.Lacking.{distinct-snoc}
+use Rattle.trial_rules.specs.Accepted.{begin-accepted, Accepts, accepts}
 
 -- ---- lists
 pub named-failed : (ρs : List Report) (r : List ℕ) → named (ρs ++ (failed r ∷ [])) ≡ named ρs ++ (r ∷ [])

@@ -1,15 +1,14 @@
 // The forbidden paths of the rule sets that apply.
 ghost use mathlib.Core.Path.{_≡_};
-ghost use Prim.Native.Nat.{ℕ, _≤_, _<_};
-ghost use mathlib.Core.List.{List};
-ghost use lib.ListN.{length, getD, replicate};
-ghost use Rattle.book.specs.Book.{RuleSet};
+ghost use lib.ListN.{length, replicate};
+ghost use Rattle.book.specs.Book.{Book};
+ghost use Rattle.book.specs.Tables.{IsSets};
 ghost use Rattle.rules.specs.Binding.{covers, known};
 ghost use Rattle.rules.specs.Area.{written};
 ghost use Rattle.limits.specs.Limits.{areaSize};
-ghost use Rattle.rules.specs.Listed.{Listed};
 use crate::area::copy;
 use crate::area::found;
+use limits::ENTRY;
 use limits::MOST_PATHS;
 use limits::MOST_SETS;
 use lists::wide;
@@ -41,17 +40,15 @@ pub fn gather(
     flags: u16,
     area: &mut [u8],
 ) -> usize
-    requires { ⌜ paths ≤ 256 ⌝ }
-    requires { ⌜ ((i : ℕ) → getD (now owners) i 0 < 16) ⌝ }
-    requires { ⌜ areaSize ≤ length (now entries) ⌝ }
-    requires { ⌜ areaSize ≤ length (now area) ⌝ }
-    ensures { λ r. ⌜ ((ss : List RuleSet) → Listed ss (now (needed .entry)) (now (owners .entry)) (now (entries .entry)) paths → now (area .entry) ≡ replicate areaSize 0 → (r ≡ length (known flags ss)) × (now (area .exit) ≡ written (known flags ss))) ⌝ }
+    requires { ⌜ ((b : Book) × IsSets b paths (now needed) (now owners) (now entries)) ⌝ }
+    requires { ⌜ now area ≡ replicate areaSize 0 ⌝ }
+    ensures { λ r. ⌜ ((b : Book) → IsSets b paths (now (needed .entry)) (now (owners .entry)) (now (entries .entry)) → (r ≡ length (known flags (b .sets))) × (now (area .exit) ≡ written (known flags (b .sets)))) ⌝ }
 {
     let mut n = 0;
     let mut j = 0;
     while j < paths {
         let owner = wide(owners[j]);
-        let at = j * 9;
+        let at = j * ENTRY;
         j += 1;
         if !applies(needed[owner], flags) {
             continue;
@@ -59,7 +56,7 @@ pub fn gather(
         if found(entries, at, area, n) {
             continue;
         }
-        copy(entries, at, area, n * 9, 9);
+        copy(entries, at, area, n * ENTRY, ENTRY);
         n += 1;
     }
     n

@@ -11,15 +11,15 @@ use lib.ListN.{length, getD, take, drop}
 use lib.Seq.{getD-take, take-take, length-take-le}
 use Rattle.lists.specs.Test.{and-true}
 use Rattle.walks.specs.Graph.{Arc}
 use Rattle.book.specs.declared.Kind.{Kind}
 use Rattle.book.specs.declared.Kind.the-variants.{VertexCount, Path, Unknown}
 use Rattle.book.specs.declared.Refusal.{Refusal}
 use Rattle.book.specs.declared.Refusal.the-variants.{Truncated, Tag, Length, Value, Repeated, TooMany}
 use Rattle.book.specs.Refusal.{firstFailure}
 use Rattle.book.specs.Book.{Book, WellFormed, blank, given, properArc, simple, allPaths}
 use Rattle.book.specs.BookLaws.{blank-well-formed, field-passed, field-extends, field-well-formed}
 use Rattle.book.specs.Reading.{Reading, accepted, refused, reading, fields, field, andThen, outcome, taken, content, extended, addPath, follows, fits, kindOf, kindAt, lengthAt, endAt, arcAt, flagsAt, pathAt}
-use Rattle.book.specs.BookSize.{Sized, size-bound, next-sized}
+use Rattle.book_size.specs.BookSize.{Sized, size-bound, next-sized}
 
 -- ---- a field looks at no byte behind its own
 -- the verdict of the four tests of the frame, and of the rest

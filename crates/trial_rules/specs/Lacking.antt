@@ -7,7 +7,7 @@ use mathlib.Core.Logic.{_⊎_, inl, inr, ⊎-elim}
 use Rattle.lists.specs.Distinct.{Distinct, Dedup}
 use Rattle.lists.specs.Test.{any}
 use Rattle.walks.specs.Avoid.{same}
-use Rattle.trials.specs.Tests.{true→T, same→mem, mem→same}
+use Rattle.trial_rules.specs.Tests.{true→T, same→mem, mem→same}
 
 -- The different paths of R that F lacks, each once (01: the lab's runs that the binding sheets lack).
 unfoldable pub lacking : List (List ℕ) → List (List ℕ) → List (List ℕ)

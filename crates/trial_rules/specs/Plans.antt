@@ -6,7 +6,7 @@ use mathlib.Core.Option.{Option, none, some}
 use Rattle.walks.specs.Graph.{Graph}
 use Rattle.walks.specs.Best.{Best, None, Best·unique, Best·not-None}
 use Rattle.automaton.specs.Chosen.{Decided}
-use Rattle.trials.specs.Trials.{ForbiddenSet, Plan, Planner}
+use Rattle.trial_rules.specs.Trials.{ForbiddenSet, Plan, Planner}
 
 module _
     {g : Graph} {plan : Plan} (planner : Planner g plan) {F : List (List ℕ)} {s t : ℕ}

@@ -20,10 +20,10 @@ use Rattle.book.specs.Refusal.{firstFailure}
 use Rattle.rules.specs.Area.{written}
 use Rattle.limits.specs.Limits.{areaSize}
 use Rattle.rules.specs.ValidLaws.{written-length}
-use Rattle.trials.specs.Trials.{Report, passed, failed, State, pathArea, standing, trials, takes, hasRoom, passedIn, Valid, Plan, refusal, overlaid, step, unless, run, accepted, named, failures, passes, replanned, Begin, begun, stateAfter, acceptedOf}
+use Rattle.trial_rules.specs.Trials.{Report, passed, failed, State, pathArea, standing, trials, takes, hasRoom, passedIn, Valid, Plan, refusal, overlaid, step, unless, run, accepted, named, failures, passes, replanned, Begin, begun, stateAfter, acceptedOf}
 use Rattle.trials.specs.OperationLaws.{set-paths, set-once}
-use Rattle.trials.specs.Accepted.{begin-accepted, oracleTests, only-oracle}
-use Rattle.trials.specs.Invariant.{Invariant, invariant-begin, invariant-step, kept, anything}
+use Rattle.trial_rules.specs.Accepted.{begin-accepted, oracleTests, only-oracle}
+use Rattle.trial_rules.specs.Invariant.{Invariant, invariant-begin, invariant-step, kept, anything}
 
 module _ (b : Begin) where
   open Begin b using (graph as g, plan, bound as F₀, start as s, end as t, paths, area)

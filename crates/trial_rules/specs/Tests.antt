@@ -19,7 +19,7 @@ use Rattle.book.specs.Book.{All, IsPath, VerticesOnce, simple, names}
 use Rattle.book.specs.BookLaws.{simple-below, simple-once}
 use Rattle.rules.specs.Binding.{once}
 use Rattle.limits.specs.Limits.{mostPaths, longest}
-use Rattle.trials.specs.Trials.{State, standing, passedIn, takes, ForbiddenSet, Valid, isForbiddenSet, isValid, isRecord}
+use Rattle.trial_rules.specs.Trials.{State, standing, passedIn, takes, ForbiddenSet, Valid, isForbiddenSet, isValid, isRecord}
 
 pub T→true : (b : Bool) → T b → b ≡ true
 T→true true t = refl

@@ -14,8 +14,8 @@ use Rattle.book.specs.declared.Refusal.the-variants.{Endpoint, Area, Invalid, N
 use Rattle.book.specs.Refusal.{Groups, Test, refusalOf, firstFailure}
 use Rattle.book.specs.RefusalLaws.{all-hold}
 use Rattle.limits.specs.Limits.{areaSize, longest}
-use Rattle.trials.specs.Trials.{Report, State, pathArea, areasFit, isNamed, hasRoom, beginRefusal, refusal, Valid, isValid, Begin}
-use Rattle.trials.specs.Tests.{T→true, true→T, isValid→Valid, Valid→isValid}
+use Rattle.trial_rules.specs.Trials.{Report, State, pathArea, areasFit, isNamed, hasRoom, beginRefusal, refusal, Valid, isValid, Begin}
+use Rattle.trial_rules.specs.Tests.{T→true, true→T, isValid→Valid, Valid→isValid}
 
 -- The tests of an operation under a book that reads well.
 module _ (areas endpoints valid walk standing named room : Bool) where

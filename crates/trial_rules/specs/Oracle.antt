@@ -16,11 +16,11 @@ use Rattle.walks.specs.Order.{≼-weight}
 use Rattle.walks.specs.Avoid.{occurs, Occurs, Occurs→occurs, Avoids, _⊆_}
 use Rattle.walks.specs.Best.{Feasible, Best, None, Best·mono, None·mono, Best·not-None}
 use Rattle.limits.specs.Limits.{mostPaths}
-use Rattle.trials.specs.Trials.{Report, passed, failed, State, standing, trials, takes, refusal, isNamed, hasRoom, stageOf, step, EachAccepted, named, failures, Begin, begun, stateAfter, acceptedOf}
-use Rattle.trials.specs.Accepted.{begin-accepted, not-refused}
-use Rattle.trials.specs.Lacking.{lacking, together, together-is, distinct-snoc}
-use Rattle.trials.specs.Invariant.{Invariant, invariant-begin, invariant-step, kept, named-failed, named-passed}
-use Rattle.trials.specs.Claim.{Claim, claimed}
+use Rattle.trial_rules.specs.Trials.{Report, passed, failed, State, standing, trials, takes, refusal, isNamed, hasRoom, stageOf, step, EachAccepted, named, failures, Begin, begun, stateAfter, acceptedOf}
+use Rattle.trial_rules.specs.Accepted.{begin-accepted, not-refused}
+use Rattle.trial_rules.specs.Lacking.{lacking, together, together-is, distinct-snoc}
+use Rattle.trial_rules.specs.Invariant.{Invariant, invariant-begin, invariant-step, kept, named-failed, named-passed}
+use Rattle.trial_rules.specs.Claim.{Claim, claimed}
 
 -- A report is true to R (01, 'Trials'): it passes a standing walk that avoids R, or names a path of R that stands in the standing walk.
 abbrev pub TrueTo : List (List ℕ) → State → Report → Type 0

@@ -5,7 +5,7 @@ use mathlib.Core.Bool.{Bool, cond, _&&_, _||_}
 use mathlib.Core.List.{List, [], _∷_}
 use lib.Dec.{eqb, leb, ltb}
 use lib.ListN.{length, getD, take, drop}
-use Rattle.trials.specs.Trials.{Report, passed, failed}
+use Rattle.trial_rules.specs.Trials.{Report, passed, failed}
 
 -- The list begins with a report; that report; and the bytes that it takes.
 abbrev pub isReport : List ℕ → Bool

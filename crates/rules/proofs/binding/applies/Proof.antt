@@ -1,12 +1,12 @@
--- `gather::applies` meets its contract: the flags cover exactly if those that are left do.
+-- `binding::applies` meets its contract: the flags cover exactly if those that are left do.
 use Prim.Native.Nat.{_-_, _≤_}
 use mathlib.Core.Path.{_≡_, refl, sym, _∙_}
 use native.Mathlib.Omega.{arith}
 use Rattle.rules.specs.Binding.{covers}
 use Rattle.rules.proofs.Flags.{covers-none, covers-lacking, covers-next}
 use borrow.Author.Needs.{needs}
-use Rattle.rules.proofs.gather.applies.Statement.{statement}
-use Rattle.rules.proofs.gather.applies.Tie as tie
+use Rattle.rules.proofs.binding.applies.Statement.{statement}
+use Rattle.rules.proofs.binding.applies.Tie as tie
 
 abbrev Inv-loop : tie.InvT-loop
 Inv-loop needed held n₀ h₀ i₀ n h i = (i ≤ 16) × (covers (16 - i) n h ≡ covers 16 needed held)
