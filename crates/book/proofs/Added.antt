@@ -14,13 +14,6 @@ use Rattle.book.specs.Tables.{entered, flagsOf, ownersFrom, padded, flag
 use Rattle.book.specs.BookLaws.{bare, paths-set, length-sets-path, paths-path}
 use Rattle.book.proofs.Padded.{padded-set}
 
--- ---- an arc
-pub entered-arc : (t : List ℕ) (xs : List Book·Arc) (a : Book·Arc)
-    → entered t (xs ++ (a ∷ [])) ≡ set (entered t xs) (a .tail * 64 + a .head) (a .weight)
-unfolding entered
-entered-arc t [] a = refl
-entered-arc t (x ∷ xs) a = entered-arc _ xs a
-
 -- ---- a rule set
 module _ (f : ℕ) where
   pub flags-set : (ss : List Book·RuleSet) → flagsOf (ss ++ bare f) ≡ flagsOf ss ++ (f ∷ [])

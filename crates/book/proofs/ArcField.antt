@@ -13,10 +13,10 @@ use Rattle.walks.specs.Graph.{Arc as Book·Arc}
 use Rattle.book.specs.Book.{Book, IsArc, WellFormed, counts, given, properArc}
 use Rattle.book.specs.BookLaws.{is-arc}
 use Rattle.book.specs.Reading.{Reading, answer, arcAt, taken, kept, proper, fresh}
-use Rattle.book.specs.TableLaws.{marked→free, unmarked→given}
+use Rattle.book.specs.TableLaws.{entered-arc, marked→free, unmarked→given}
 use Rattle.book.specs.Tables.{weightTable}
 use Rattle.limits.specs.Limits.{noArc}
-use Rattle.book.proofs.Added.{entered-arc, counts-arc}
+use Rattle.book.proofs.Added.{counts-arc}
 use Rattle.book.proofs.Taken.{taken-value, taken-repeated, taken-whole}
 
 module _ (c : Counts) (s : List ℕ) (b : Book) (at : ℕ) (so-far : c ≡ counts b) (w : WellFormed b) (t : List ℕ) (held : t ≡ weightTable (b .arcs)) (a : Book·Arc) (read : a ≡ arcAt s at) where

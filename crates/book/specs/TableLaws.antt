@@ -2,7 +2,7 @@
 use Prim.Native.Nat.{ℕ, _+_, _*_, _≤_, _<_}
 use mathlib.Core.Path.{_≡_, refl, sym, ap, ap₂, _∙_}
 use mathlib.Core.Bool.{Bool, true, false, cond, _&&_, true≢false}
-use mathlib.Core.List.{List, [], _∷_}
+use mathlib.Core.List.{List, [], _∷_, _++_}
 use mathlib.Core.Option.{Option, none, some, Option·getD}
 use native.Mathlib.Omega.{arith}
 use borrow.Author.Tests.{eqb-true, eq-eqb}
@@ -34,6 +34,12 @@ found P (a ∷ xs) u v x h e = go (eqb (a .tail) u && eqb (a .head) v) refl e (f
         let here = and-true (eqb (a .tail) u) (eqb (a .head) v) p in
         record { arc = a; holds = h .0; tail-is = eqb-true _ _ (here .0); head-is = eqb-true _ _ (here .1); weight-is = cc }
     go false p q later = later q
+
+-- one more arc
+pub entered-arc : (t : List ℕ) (xs : List Arc) (a : Arc) → entered t (xs ++ (a ∷ [])) ≡ set (entered t xs) (a .tail * 64 + a .head) (a .weight)
+unfolding entered
+entered-arc t [] a = refl
+entered-arc t (x ∷ xs) a = entered-arc _ xs a
 
 nothing : (o : Option ℕ) → isSome o ≡ false → o ≡ none
 nothing none e = refl

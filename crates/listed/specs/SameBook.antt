@@ -9,16 +9,16 @@ use lib.Dec.{eqb, leb}
 use Rattle.lists.specs.Test.{or-false}
 use Rattle.walks.specs.Graph.{Arc}
 use Rattle.book.specs.declared.Refusal.the-variants.{Value, Repeated}
-use Rattle.book.specs.Refusal.{refusalOf}
+use Rattle.book.specs.Refusal.{refusalBy}
 use Rattle.book.specs.Book.{Book, All, IsArc, PairsOnce, given, graph, properArc}
 use Rattle.book.specs.BookLaws.{reading-is-book, given-cons, other-pair}
 use Rattle.book.specs.Reading.{accepted, andThen, outcome, reading}
 use Rattle.rules.specs.Area.{spelled}
 use Rattle.planner.specs.declared.Outcome.{Outcome}
-use Rattle.planner.specs.Planning.{PlanningIn, PlanningOf, Planning, tests}
+use Rattle.planner.specs.Planning.{planTests, PlanningOf, Planning}
 use Rattle.planner.specs.RuleSets.{planned-same}
 use Rattle.listed.specs.declared.Arc.{Arc as Item}
-use Rattle.listed.specs.Listing.{arcOf, judged, added, items, listing}
+use Rattle.listed.specs.Listing.{arcOf, withItem, added, items, listing}
 
 -- the arcs of a list
 abbrev pub arcsOf : List Item → List Arc
@@ -45,7 +45,7 @@ not-before (x ∷ xs) a ys once =
 abbrev more : Book → List Arc → Book
 more b as′ = record { count = b .count; arcs = b .arcs ++ as′; sets = b .sets }
 
-good-item : (b : Book) (i : ℕ) (a : Arc) → IsArc (b .count) a → given (b .arcs) (a .tail) (a .head) ≡ false → judged b i a ≡ accepted (added b a)
+good-item : (b : Book) (i : ℕ) (a : Arc) → IsArc (b .count) a → given (b .arcs) (a .tail) (a .head) ≡ false → withItem b i a ≡ accepted (added b a)
 good-item b i a is new =
     ap₂ (λ x y. outcome (cond x (cond (not y) none (some (Repeated i))) (some (Value i))) (added b a)) (arc-passes (b .count) a is) new
 
@@ -75,7 +75,7 @@ pub from-book : (s : List ℕ) (b : Book) → reading s ≡ accepted b → (n : 
     → (paths : List ℕ) (count start end : ℕ) (old : List ℕ) (r : Outcome) (new : List ℕ)
     → PlanningOf (listing n xs) paths count start end old r new → Planning s paths count start end old r new
 from-book s b read n xs n-is same paths count start end old r new p =
-    let q : PlanningIn b paths count start end old r new =
+    let q : PlanningOf (accepted b) paths count start end old r new =
     subst (λ x. PlanningOf x paths count start end old r new) (ap (λ k. listing k xs) n-is ∙ listed-book s b read xs same) p in
     subst (λ x. PlanningOf x paths count start end old r new) (sym read) q
 
@@ -84,7 +84,7 @@ pub same-plan : (s : List ℕ) (b : Book) → reading s ≡ accepted b → (n : 
     → (paths : List ℕ) (count start end : ℕ) (old : List ℕ) (r r′ : Outcome) (new new′ : List ℕ)
     → PlanningOf (listing n xs) paths count start end old r new → Planning s paths count start end old r′ new′ → (r ≡ r′) × (new ≡ new′)
 same-plan s b read n xs n-is same paths count start end old r r′ new new′ p p′ =
-    let in-book : (r : Outcome) (new : List ℕ) → Planning s paths count start end old r new → PlanningIn b paths count start end old r new =
+    let in-book : (r : Outcome) (new : List ℕ) → Planning s paths count start end old r new → PlanningOf (accepted b) paths count start end old r new =
     λ r new q. subst (λ x. PlanningOf x paths count start end old r new) read q in
-    planned-same (refusalOf (tests b paths count start end old)) (graph b) (spelled count paths) (spelled count paths) (λ _ m. m) (λ _ m. m) start end old r r′ new new′
+    planned-same (refusalBy (planTests paths count start end old b)) (graph b) (spelled count paths) (spelled count paths) (λ _ m. m) (λ _ m. m) start end old r r′ new new′
     (in-book r new (from-book s b read n xs n-is same paths count start end old r new p)) (in-book r′ new′ p′)

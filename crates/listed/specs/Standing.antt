@@ -4,9 +4,8 @@ use mathlib.Core.Path.{_≡_}
 use mathlib.Core.Bool.{Bool, false}
 use mathlib.Core.List.{List}
 use lib.Dec.{ltb}
-use Rattle.book.specs.Book.{Book, WellFormed}
 use Rattle.book.specs.Reading.{Reading, accepted, refused}
-use Rattle.book.specs.Tables.{weightTable}
+use Rattle.book.specs.Tables.{IsGraph}
 use Rattle.listed.specs.declared.Verdict.{Verdict}
 use Rattle.listed.specs.declared.Verdict.the-variants.{Good, Refused}
 
@@ -14,20 +13,14 @@ abbrev pub verdictOf : Reading → Verdict
 verdictOf (accepted b) = Good
 verdictOf (refused x) = Refused x
 
--- whether item i of n is still to be judged
+-- whether item i of n is still to be withItem
 abbrev pub goesOn : Verdict → ℕ → ℕ → Bool
 goesOn Good i n = ltb i n
 goesOn (Refused x) i n = false
 
--- A table that stands for a book of n vertices.
-pub record Holds (n : ℕ) (b : Book) (t : List ℕ) : Type 0 where
-  pub well : WellFormed b
-  pub count-is : b .count ≡ n
-  pub table-is : t ≡ weightTable (b .arcs)
-
 -- A table is of no account once the list is refused.
 abbrev pub Table : ℕ → Reading → List ℕ → Type 0
-Table n (accepted b) t = Holds n b t
+Table n (accepted b) t = IsGraph b n t
 Table n (refused x) t = Unit {0}
 
 pub record Stands (n : ℕ) (x : Reading) (v : Verdict) (t : List ℕ) : Type 0 where

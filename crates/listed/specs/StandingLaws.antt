@@ -17,16 +17,16 @@ use Rattle.book.specs.declared.Refusal.the-variants.{Value, Repeated}
 use Rattle.book.specs.Book.{Book, IsArc, WellFormed, allPaths, given, properArc}
 use Rattle.book.specs.BookLaws.{is-arc, arc-well-formed}
 use Rattle.book.specs.Reading.{Reading, accepted, refused, andThen, outcome}
-use Rattle.book.specs.TableLaws.{marked→free, unmarked→given}
-use Rattle.book.specs.Tables.{entered, weightTable}
-use Rattle.limits.specs.Limits.{noArc}
+use Rattle.book.specs.TableLaws.{entered-arc, marked→free, unmarked→given}
+use Rattle.book.specs.Tables.{IsGraph, entered, weightTable}
+use Rattle.limits.specs.Limits.{pairs, noArc}
 use Rattle.planner.specs.declared.Outcome.{Outcome}
-use Rattle.planner.specs.Planning.{PlanningIn, PlanningOf}
+use Rattle.planner.specs.Planning.{PlanningOf}
 use Rattle.listed.specs.declared.Arc.{Arc as Item}
 use Rattle.listed.specs.declared.Verdict.{Verdict}
 use Rattle.listed.specs.declared.Verdict.the-variants.{Good, Refused}
-use Rattle.listed.specs.Listing.{arcOf, counted, judged, added, items, listing}
-use Rattle.listed.specs.Standing.{goesOn, verdictOf, Holds, Table, Stands}
+use Rattle.listed.specs.Listing.{arcOf, counted, withItem, added, items, listing}
+use Rattle.listed.specs.Standing.{goesOn, verdictOf, Table, Stands}
 
 not-refused : (x : Refusal) → Good ≡ Refused x → ⊥
 not-refused x e = let z : _≡_ {A = ℕ} 0 1 = cc in omega arith
@@ -40,17 +40,17 @@ unfolding allPaths
 empty-well-formed n low high =
     record { few-vertices = high; counted = λ _. low; arcs-proper = tt; pairs-once = tt; few-sets = omega arith; few-paths = omega arith; paths-proper = tt }
 
-no-arcs : weightTable [] ≡ replicate 4096 noArc
+no-arcs : weightTable [] ≡ replicate pairs noArc
 unfolding entered
 no-arcs = refl
 
-counted-table : (n : ℕ) (t : List ℕ) → t ≡ replicate 4096 noArc → Table n (counted n) t
+counted-table : (n : ℕ) (t : List ℕ) → t ≡ replicate pairs noArc → Table n (counted n) t
 counted-table n t blank = go (leb 1 n && leb n 64) refl
   where
     go : (x : Bool) → leb 1 n && leb n 64 ≡ x → Table n (outcome (cond x none (some (Value 0))) (empty n)) t
     go true e =
         let limits = and-true (leb 1 n) (leb n 64) e in
-        record { well = empty-well-formed n (leb-true _ _ (limits .0)) (leb-true _ _ (limits .1)); count-is = refl; table-is = blank ∙ sym no-arcs }
+        record { well = empty-well-formed n (leb-true _ _ (limits .0)) (leb-true _ _ (limits .1)); vertices-are = refl; weights-are = blank ∙ sym no-arcs }
     go false e = tt
 
 abbrev counted-by : ℕ → Bool → Verdict
@@ -66,16 +66,11 @@ pub few-vertices : (n : ℕ) → 1 ≤ n → n ≤ 64 → Good ≡ verdictOf (co
 few-vertices n low high = ap₂ (λ x y. counted-by n (x && y)) (sym (le-leb 1 n low)) (sym (le-leb n 64 high))
 
 -- ---- one item
-entered-more : (a : Arc) (t : List ℕ) (xs : List Arc) → entered t (xs ++ (a ∷ [])) ≡ set (entered t xs) (a .tail * 64 + a .head) (a .weight)
-unfolding entered
-entered-more a t [] = refl
-entered-more a t (x ∷ xs) = entered-more a _ xs
-
-module _ (n : ℕ) (b : Book) (t : List ℕ) (h : Holds n b t) (i : ℕ) (a : Arc) where
+module _ (n : ℕ) (b : Book) (t : List ℕ) (h : IsGraph b n t) (i : ℕ) (a : Arc) where
   proper-is : (x : Bool) → properArc n a ≡ x → properArc (b .count) a ≡ x
-  proper-is x e = ap (λ k. properArc k a) (h .count-is) ∙ e
+  proper-is x e = ap (λ k. properArc k a) (sym (h .vertices-are)) ∙ e
 
-  pub improper : properArc n a ≡ false → Stands n (judged b i a) (Refused (Value i)) t
+  pub improper : properArc n a ≡ false → Stands n (withItem b i a) (Refused (Value i)) t
   improper e =
       subst (λ y. Stands n (outcome (cond y (cond (not (given (b .arcs) (a .tail) (a .head))) none (some (Repeated i))) (some (Value i))) (added b a)) (Refused (Value i)) t)
       (sym (proper-is false e)) (record { verdict-is = refl; table = tt })
@@ -85,7 +80,7 @@ module _ (n : ℕ) (b : Book) (t : List ℕ) (h : Holds n b t) (i : ℕ) (a : Ar
     within = is-arc n a p
 
     few : n ≤ 64
-    few = omega (arith, h .count-is, h .well .few-vertices)
+    few = omega (arith, h .vertices-are, h .well .few-vertices)
 
     tail-fits : a .tail < 64
     tail-fits = omega (arith, within .tail-below, few)
@@ -93,30 +88,30 @@ module _ (n : ℕ) (b : Book) (t : List ℕ) (h : Holds n b t) (i : ℕ) (a : Ar
     head-fits : a .head < 64
     head-fits = omega (arith, within .head-below, few)
 
-    -- an arc that is proper is judged by whether its pair has been given
-    proper-judged : (v : Verdict) (t′ : List ℕ) (y : Bool) → given (b .arcs) (a .tail) (a .head) ≡ y
-        → Stands n (outcome (cond (not y) none (some (Repeated i))) (added b a)) v t′ → Stands n (judged b i a) v t′
-    proper-judged v t′ y e s =
+    -- an arc that is proper is withItem by whether its pair has been given
+    proper-item : (v : Verdict) (t′ : List ℕ) (y : Bool) → given (b .arcs) (a .tail) (a .head) ≡ y
+        → Stands n (outcome (cond (not y) none (some (Repeated i))) (added b a)) v t′ → Stands n (withItem b i a) v t′
+    proper-item v t′ y e s =
         subst (λ x. Stands n (outcome (cond x (cond (not (given (b .arcs) (a .tail) (a .head))) none (some (Repeated i))) (some (Value i))) (added b a)) v t′)
         (sym (proper-is true p))
         (subst (λ x. Stands n (outcome (cond (not x) none (some (Repeated i))) (added b a)) v t′) (sym e) s)
 
-    pub repeated : (getD t (a .tail * 64 + a .head) 0 ≡ noArc → ⊥) → Stands n (judged b i a) (Refused (Repeated i)) t
+    pub repeated : (getD t (a .tail * 64 + a .head) 0 ≡ noArc → ⊥) → Stands n (withItem b i a) (Refused (Repeated i)) t
     repeated ne =
-        let seen = unmarked→given b (h .well) _ _ tail-fits head-fits (λ e. ne (ap (λ l. getD l (a .tail * 64 + a .head) 0) (h .table-is) ∙ e)) in
-        proper-judged (Refused (Repeated i)) t true seen (record { verdict-is = refl; table = tt })
+        let seen = unmarked→given b (h .well) _ _ tail-fits head-fits (λ e. ne (ap (λ l. getD l (a .tail * 64 + a .head) 0) (h .weights-are) ∙ e)) in
+        proper-item (Refused (Repeated i)) t true seen (record { verdict-is = refl; table = tt })
 
-    pub added-stands : getD t (a .tail * 64 + a .head) 0 ≡ noArc → Stands n (judged b i a) Good (set t (a .tail * 64 + a .head) (a .weight))
+    pub added-stands : getD t (a .tail * 64 + a .head) 0 ≡ noArc → Stands n (withItem b i a) Good (set t (a .tail * 64 + a .head) (a .weight))
     added-stands e =
-        let new = marked→free b (h .well) _ _ tail-fits head-fits (ap (λ l. getD l (a .tail * 64 + a .head) 0) (sym (h .table-is)) ∙ e) in
-        proper-judged Good _ false new
+        let new = marked→free b (h .well) _ _ tail-fits head-fits (ap (λ l. getD l (a .tail * 64 + a .head) 0) (sym (h .weights-are)) ∙ e) in
+        proper-item Good _ false new
         (record {
           verdict-is = refl;
           table =
               record {
                 well = arc-well-formed a b (h .well) (proper-is true p) new;
-                count-is = h .count-is;
-                table-is = ap (λ l. set l (a .tail * 64 + a .head) (a .weight)) (h .table-is) ∙ sym (entered-more a (replicate 4096 noArc) (b .arcs));
+                vertices-are = h .vertices-are;
+                weights-are = ap (λ l. set l (a .tail * 64 + a .head) (a .weight)) (h .weights-are) ∙ sym (entered-arc (replicate pairs noArc) (b .arcs) a);
               };
         })
 
@@ -131,37 +126,37 @@ pub record Going (n : ℕ) (xs : List Item) (i : ℕ) (v : Verdict) (t : List �
   pub stands : Stands n so-far v t
   pub rest-is : andThen so-far (items i (drop i xs)) ≡ listing n xs
 
-pub going-first : (n : ℕ) (xs : List Item) (v : Verdict) (t : List ℕ) → v ≡ verdictOf (counted n) → t ≡ replicate 4096 noArc → Going n xs 0 v t
+pub going-first : (n : ℕ) (xs : List Item) (v : Verdict) (t : List ℕ) → v ≡ verdictOf (counted n) → t ≡ replicate pairs noArc → Going n xs 0 v t
 going-first n xs v t is blank =
     record { so-far = counted n; stands = record { verdict-is = is; table = counted-table n t blank }; rest-is = refl }
 
--- an item is judged, and then those after it
+-- an item is withItem, and then those after it
 then-items : (x : Reading) (i : ℕ) (a : Item) (xs : List Item)
-    → andThen (andThen x (λ b. judged b i (arcOf a))) (items (suc i) xs) ≡ andThen x (items i (a ∷ xs))
+    → andThen (andThen x (λ b. withItem b i (arcOf a))) (items (suc i) xs) ≡ andThen x (items i (a ∷ xs))
 unfolding items
 then-items (accepted b) i a xs = refl
 then-items (refused x) i a xs = refl
 
--- while items are to be judged, those so far are a book's
-pub going-book : (n : ℕ) (xs : List Item) (i : ℕ) (v : Verdict) (t : List ℕ) (m : ℕ) → goesOn v i m ≡ true → Going n xs i v t → (b : Book) × Holds n b t
+-- while items are to be withItem, those so far are a book's
+pub going-book : (n : ℕ) (xs : List Item) (i : ℕ) (v : Verdict) (t : List ℕ) (m : ℕ) → goesOn v i m ≡ true → Going n xs i v t → (b : Book) × IsGraph b n t
 going-book n xs i v t m on g = go (g .so-far) v on (g .stands)
   where
-    go : (x : Reading) (v : Verdict) → goesOn v i m ≡ true → Stands n x v t → (b : Book) × Holds n b t
+    go : (x : Reading) (v : Verdict) → goesOn v i m ≡ true → Stands n x v t → (b : Book) × IsGraph b n t
     go (accepted b) v e s = (b, s .table)
     go (refused x) Good e s = absurd (not-refused x (s .verdict-is))
     go (refused x) (Refused y) e s = absurd (false≢true e)
 
 pub going-on : (n : ℕ) (xs : List Item) (i : ℕ) (d : Item) (v v′ : Verdict) (t t′ : List ℕ) → goesOn v i (length xs) ≡ true
-    → ((b : Book) → Holds n b t → Stands n (judged b i (arcOf (getD xs i d))) v′ t′) → Going n xs i v t → Going n xs (i + 1) v′ t′
+    → ((b : Book) → IsGraph b n t → Stands n (withItem b i (arcOf (getD xs i d))) v′ t′) → Going n xs i v t → Going n xs (i + 1) v′ t′
 going-on n xs i d v v′ t t′ on judges g =
     subst (λ k. Going n xs k v′ t′) (sym (add-suc i 0 ∙ ap suc (add-zero i)))
     (record {
-      so-far = andThen (g .so-far) (λ b. judged b i (arcOf (getD xs i d)));
+      so-far = andThen (g .so-far) (λ b. withItem b i (arcOf (getD xs i d)));
       stands = go (g .so-far) v on (g .stands);
       rest-is = then-items (g .so-far) i (getD xs i d) (drop (suc i) xs) ∙ ap (λ l. andThen (g .so-far) (items i l)) (sym (drop-cons xs i d (goes-on v i (length xs) on))) ∙ g .rest-is;
     })
   where
-    go : (x : Reading) (v : Verdict) → goesOn v i (length xs) ≡ true → Stands n x v t → Stands n (andThen x (λ b. judged b i (arcOf (getD xs i d)))) v′ t′
+    go : (x : Reading) (v : Verdict) → goesOn v i (length xs) ≡ true → Stands n x v t → Stands n (andThen x (λ b. withItem b i (arcOf (getD xs i d)))) v′ t′
     go (accepted b) v e s = judges b (s .table)
     go (refused x) Good e s = absurd (not-refused x (s .verdict-is))
     go (refused x) (Refused y) e s = absurd (false≢true e)
@@ -183,15 +178,15 @@ going-last n xs i v t left g = subst (λ x. Stands n x v t) (all-read (g .so-far
 
 -- ---- planning takes a good verdict's book, and hands a refusal on
 pub good-book : (n : ℕ) (x : Reading) (v : Verdict) (t : List ℕ) → v ≡ Good → Stands n x v t
-    → (b : Book) × WellFormed b × (n ≡ b .count) × (t ≡ weightTable (b .arcs))
-good-book n (accepted b) v t good s = (b, s .table .well, sym (s .table .count-is), s .table .table-is)
+    → (b : Book) × IsGraph b n t
+good-book n (accepted b) v t good s = (b, s .table)
 good-book n (refused x) v t good s = absurd (not-refused x (sym good ∙ s .verdict-is))
 
 module _ (paths : List ℕ) (count start end : ℕ) (old : List ℕ) where
   pub plans-book : (n : ℕ) (x : Reading) (v : Verdict) (t : List ℕ) (r : Outcome) (new : List ℕ) → v ≡ Good
-      → ((b : Book) → WellFormed b → n ≡ b .count → t ≡ weightTable (b .arcs) → PlanningIn b paths count start end old r new)
+      → ((b : Book) → IsGraph b n t → PlanningOf (accepted b) paths count start end old r new)
       → Stands n x v t → PlanningOf x paths count start end old r new
-  plans-book n (accepted b) v t r new good plans s = plans b (s .table .well) (sym (s .table .count-is)) (s .table .table-is)
+  plans-book n (accepted b) v t r new good plans s = plans b (s .table)
   plans-book n (refused x) v t r new good plans s = absurd (not-refused x (sym good ∙ s .verdict-is))
 
   pub plans-none : (n : ℕ) (x : Reading) (v : Verdict) (t : List ℕ) (y : Refusal) → v ≡ Refused y

@@ -3,11 +3,13 @@ ghost use mathlib.Core.Path.{_≡_};
 ghost use lib.ListN.{replicate};
 ghost use Rattle.book.specs.Book.{Book};
 ghost use Rattle.book.specs.Reading.{Reading};
-ghost use Rattle.limits.specs.Limits.{noArc};
+ghost use Rattle.book.specs.Tables.{IsGraph};
+ghost use Rattle.limits.specs.Limits.{noArc, pairs};
 ghost use Rattle.planner.specs.Planning.{PlanningOf};
-ghost use Rattle.listed.specs.Listing.{arcOf, counted as Listing·counted, judged, listing};
-ghost use Rattle.listed.specs.Standing.{Holds, Stands, goesOn, verdictOf};
+ghost use Rattle.listed.specs.Listing.{arcOf, counted as Listing·counted, withItem, listing};
+ghost use Rattle.listed.specs.Standing.{Stands, goesOn, verdictOf};
 use book::Refusal;
+use limits::MOST_VERTICES;
 use limits::NO_ARC;
 use limits::PAIRS;
 use lists::wide;
@@ -33,7 +35,7 @@ fn counted(vertices: usize) -> Verdict
     if vertices < 1 {
         return Verdict::Refused(Refusal::Value(0));
     }
-    if 64 < vertices {
+    if MOST_VERTICES < vertices {
         return Verdict::Refused(Refusal::Value(0));
     }
     Verdict::Good
@@ -41,8 +43,8 @@ fn counted(vertices: usize) -> Verdict
 
 // Judges the item at index i after a book, and enters it into the table of weights.
 fn enter(vertices: usize, i: usize, arc: Arc, weights: &mut [u32; PAIRS]) -> Verdict
-    requires { ⌜ ((b : Book) × Holds vertices b (now weights)) ⌝ }
-    ensures { λ r. ⌜ ((b : Book) → Holds vertices b (now (weights .entry)) → Stands vertices (judged b i (arcOf arc)) r (now (weights .exit))) ⌝ }
+    requires { ⌜ ((b : Book) × IsGraph b vertices (now weights)) ⌝ }
+    ensures { λ r. ⌜ ((b : Book) → IsGraph b vertices (now (weights .entry)) → Stands vertices (withItem b i (arcOf arc)) r (now (weights .exit))) ⌝ }
 {
     let tail = wide(arc.tail);
     let head = wide(arc.head);
@@ -50,7 +52,7 @@ fn enter(vertices: usize, i: usize, arc: Arc, weights: &mut [u32; PAIRS]) -> Ver
     if !book::proper_arc(vertices, tail, head, weight) {
         return Verdict::Refused(Refusal::Value(i));
     }
-    let pair = tail * 64 + head;
+    let pair = tail * MOST_VERTICES + head;
     if weights[pair] != NO_ARC {
         return Verdict::Refused(Refusal::Repeated(i));
     }
@@ -58,7 +60,7 @@ fn enter(vertices: usize, i: usize, arc: Arc, weights: &mut [u32; PAIRS]) -> Ver
     Verdict::Good
 }
 
-// Whether item i of n is still to be judged.
+// Whether item i of n is still to be withItem.
 fn more(verdict: Verdict, i: usize, n: usize) -> bool
     ensures { λ r. ⌜ r ≡ goesOn verdict i n ⌝ }
 {
@@ -70,7 +72,7 @@ fn more(verdict: Verdict, i: usize, n: usize) -> bool
 
 // Copies the items out one by one, and enters each into a blank table, up to the first bad one.
 fn load(vertices: usize, arcs: &[Arc], weights: &mut [u32; PAIRS]) -> Verdict
-    requires { ⌜ now weights ≡ replicate 4096 noArc ⌝ }
+    requires { ⌜ now weights ≡ replicate pairs noArc ⌝ }
     ensures { λ r. ⌜ Stands vertices (listing vertices (now (arcs .entry))) r (now (weights .exit)) ⌝ }
 {
     let mut verdict = counted(vertices);

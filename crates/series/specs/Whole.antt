@@ -18,7 +18,7 @@ use Rattle.series.specs.Reports.{reportsOf}
 use Rattle.trials.specs.Replanning.{trialsOf}
 use Rattle.trial_rules.specs.Invariant.{Invariant, invariant-begin, invariant-step}
 use Rattle.trial_rules.specs.Claim.{Claim, claim}
-use Rattle.trial_rules.specs.Oracle.{OracleSet, TrueOracle, Outcome, oracle}
+use Rattle.trial_rules.specs.Oracle.{OracleSet, TrueOracle, OracleOutcome, oracle}
 
 -- What a state leaves: its record, and every byte of both areas.
 abbrev pub leftBy : State → Left Record
@@ -95,5 +95,5 @@ module _ (s : List ℕ) (b : Book) (read : reading s ≡ accepted b) where
     replay-claim reports = claim opened (reportsOf reports)
 
     pub replay-oracle : (R : List (List ℕ)) → OracleSet opened R → (reports : List ℕ) → TrueOracle opened R (reportsOf reports)
-        → Outcome opened R (acceptedOf opened (reportsOf reports)) (stateAfter opened (reportsOf reports))
+        → OracleOutcome opened R (acceptedOf opened (reportsOf reports)) (stateAfter opened (reportsOf reports))
     replay-oracle R set reports honest = oracle opened R set (reportsOf reports) honest

@@ -1,8 +1,8 @@
 -- The steps of the record.
 use Prim.Native.Nat.{ℕ, _+_, _<_}
 use mathlib.Core.Path.{_≡_, subst}
-use Rattle.planner.specs.declared.Outcome.{Outcome}
-use Rattle.planner.specs.declared.Outcome.the-variants.{Walk, Nothing, Refused}
+use Rattle.search.specs.declared.Found.{Found}
+use Rattle.search.specs.declared.Found.the-variants.{Walk, Nothing}
 use Rattle.limits.specs.Limits.{longest}
 use Rattle.trial_record.specs.declared.Record.{Record}
 
@@ -26,16 +26,14 @@ withPlan r stage litres length =
       length = length;
     }
 
-abbrev pub replanned : Record → Outcome → Record
+abbrev pub replanned : Record → Found → Record
 replanned r (Walk weight hops) = withPlan r 0 weight (hops + 1)
 replanned r Nothing = withPlan r 2 0 0
-replanned r (Refused x) = withPlan r 2 0 0
 
--- The length fits the record.
-abbrev pub Counted : Outcome → Type 0
-Counted (Walk weight hops) = hops < longest
-Counted Nothing = Unit
-Counted (Refused x) = Unit
+-- A walk that was found has a length that the record holds.
+abbrev pub Short : Found → Type 0
+Short (Walk weight hops) = hops < longest
+Short Nothing = Unit
 
 -- Passed: stage 1, passed becomes 1.
 abbrev pub passedOf : Record → Record
@@ -67,5 +65,5 @@ failedOf r =
       length = r .length;
     }
 
-pub counted-walk : (o : Outcome) (weight hops : ℕ) → o ≡ Walk weight hops → Counted o → hops < longest
-counted-walk o weight hops e h = subst Counted e h
+pub short-walk : (f : Found) (weight hops : ℕ) → f ≡ Walk weight hops → Short f → hops < longest
+short-walk f weight hops e h = subst Short e h

@@ -1,9 +1,10 @@
 // The record of the trials, and its steps: each takes the record by value and hands the next one back.
 ghost use mathlib.Core.Path.{_≡_};
 ghost use Prim.Native.Nat.{_≤_, _<_};
-ghost use Rattle.trial_record.specs.Steps.{fresh, withPlan, Counted, passedOf, failedOf};
+ghost use Rattle.limits.specs.Limits.{mostPaths};
+ghost use Rattle.trial_record.specs.Steps.{fresh, withPlan, Short, passedOf, failedOf};
 ghost use Rattle.trial_record.specs.Steps.{replanned as Steps·replanned};
-use planner::Outcome;
+use search::Found;
 
 // The record of 01. The stage is 0 while a walk (01: line-up) stands, 1 once it has passed, 2 where there is none.
 pub struct Record {
@@ -60,14 +61,13 @@ impl Record {
     }
 
     // The plan anew.
-    pub fn replanned(self, outcome: Outcome) -> Record
-        requires { ⌜ Counted outcome ⌝ }
-        ensures { λ r. ⌜ r ≡ Steps·replanned self outcome ⌝ }
+    pub fn replanned(self, found: Found) -> Record
+        requires { ⌜ Short found ⌝ }
+        ensures { λ r. ⌜ r ≡ Steps·replanned self found ⌝ }
     {
-        match outcome {
-            Outcome::Walk { weight, hops } => self.standing(weight, hops + 1),
-            Outcome::Nothing => self.nothing(),
-            Outcome::Refused(_) => self.nothing(),
+        match found {
+            Found::Walk { weight, hops } => self.standing(weight, hops + 1),
+            Found::Nothing => self.nothing(),
         }
     }
 
@@ -82,7 +82,7 @@ impl Record {
 
     // The standing walk has failed: one more forbidden path is known.
     pub fn failed(mut self) -> Record
-        requires { ⌜ (self .known < 256) × (self .failed ≤ self .known) ⌝ }
+        requires { ⌜ (self .known < mostPaths) × (self .failed ≤ self .known) ⌝ }
         ensures { λ r. ⌜ r ≡ failedOf self ⌝ }
     {
         self.known += 1;

@@ -8,21 +8,24 @@ use mathlib.Core.Logic.{_≢_, _↔_, by-cases}
 use mathlib.Core.Option.{Option, none, some}
 use native.Mathlib.Omega.{arith}
 use native.Mathlib.Decide.{ℕ-discrete}
-use borrow.Author.Tests.{eqb-true}
-use lib.Dec.{T, eqb}
+use borrow.Author.Tests.{eqb-true, eq-eqb}
+use lib.Dec.{eqb}
 use lib.ListN.{length, drop, length-append, length-drop}
+use Rattle.lists.specs.Test.{true→T}
 use Rattle.walks.specs.Graph.{Graph}
 use Rattle.walks.specs.Avoid.{occurs, occurs→Occurs}
 use Rattle.walks.specs.Best.{Best, None, Best·not-None}
 use Rattle.book.specs.declared.Refusal.{Refusal}
-use Rattle.book.specs.declared.Refusal.the-variants.{NotStanding, Full}
-use Rattle.book.specs.Refusal.{firstFailure}
+use Rattle.book.specs.Refusal.{numbered, refusalBy}
+use Rattle.book.specs.RefusalLaws.{Fails, here, later, first-fails}
+use Rattle.book.specs.Book.{isPath}
 use Rattle.rules.specs.Area.{written}
 use Rattle.limits.specs.Limits.{areaSize}
+use Rattle.rules.specs.Sets.{refuted}
 use Rattle.rules.specs.ValidLaws.{written-length}
-use Rattle.trial_rules.specs.Trials.{Report, passed, failed, State, pathArea, standing, trials, takes, hasRoom, passedIn, Valid, Plan, refusal, overlaid, step, unless, run, accepted, named, failures, passes, replanned, Begin, begun, stateAfter, acceptedOf}
-use Rattle.trials.specs.OperationLaws.{set-paths, set-once}
-use Rattle.trial_rules.specs.Accepted.{begin-accepted, oracleTests, only-oracle}
+use Rattle.trial_rules.specs.Trials.{Report, passed, failed, State, pathArea, standing, trials, oracleTests, passedIn, Valid, Plan, refusal, overlaid, step, unless, run, accepted, named, failures, passes, replanned, Begin, begun, stateAfter, acceptedOf}
+use Rattle.trial_rules.specs.Tests.{set-paths, set-once}
+use Rattle.trial_rules.specs.Accepted.{begin-accepted, only-oracle}
 use Rattle.trial_rules.specs.Invariant.{Invariant, invariant-begin, invariant-step, kept, anything}
 
 module _ (b : Begin) where
@@ -52,7 +55,7 @@ module _ (b : Begin) where
     pub nothing : (σ .rec .stage ≡ 2) ↔ None g (σ .forbidden) s t
     pub passed-stage : (σ .rec .stage ≡ 1) ↔ (passes done ≡ 1)
     -- a report is refused only for what its oracle does: 11, 12, 13
-    pub refusals : (ρ : Report) → refusal g σ ρ ≡ firstFailure (oracleTests g σ ρ)
+    pub refusals : (ρ : Report) → refusal g σ ρ ≡ refusalBy (oracleTests g σ ρ)
 
 -- ---- proof
 count-all : (ρs : List Report) → failures ρs + passes ρs ≡ length ρs
@@ -96,7 +99,7 @@ claimed b done σ c =
       );
       passed-stage =
           (λ e. sym (c .passed-count) ∙ v .passed ∙ rw e refl, λ e. one-just-in-stage-1 (σ .rec .stage) (sym (v .passed) ∙ c .passed-count ∙ e));
-      refusals = only-oracle g σ (omega (arith, c .area-length, a .area-fits)) v;
+      refusals = λ ρ. only-oracle g σ ρ (omega (arith, c .area-length, a .area-fits)) v;
     }
 
 -- The claim about the list: for every accepted begin and every list of reports after it, refused ones included.
@@ -123,15 +126,15 @@ module _ (g : Graph) (plan : Plan) where
 
 -- A path that is known already does not stand in the walk: naming it is refused under 12.
 pub known-refused : (b : Begin) (done : List Report) (σ : State) → Claim b done σ → σ .rec .stage ≡ 0 → (r : List ℕ) → List·Memᴰ r (σ .forbidden)
-    → refusal (b .graph) σ (failed r) ≡ some NotStanding
-known-refused b done σ c e r m = c .refusals (failed r) ∙ rw e (go (takes (b .graph .count) r) (occurs r (standing σ)) absent)
+    → refusal (b .graph) σ (failed r) ≡ some (numbered 12 0)
+known-refused b done σ c e r m =
+    let fails : Fails (oracleTests (b .graph) σ (failed r)) (numbered 12 0) =
+    later (eq-eqb _ _ e) (here (not-named (isPath (b .graph .count) r) (refuted (occurs r (standing σ)) absent))) in
+    c .refusals (failed r) ∙ first-fails fails
   where
-    absent : T (occurs r (standing σ)) → ⊥
-    absent t = c .valid .walk (λ f. omega arith) .clear r m (occurs→Occurs r (standing σ) t)
+    absent : occurs r (standing σ) ≡ true → ⊥
+    absent t = c .valid .walk (λ f. omega arith) .clear r m (occurs→Occurs r (standing σ) (true→T _ t))
 
-    go : (x y : Bool) → (T y → ⊥)
-        → firstFailure (record { holds = x && y; refusal = NotStanding } ∷ record { holds = hasRoom σ (failed r); refusal = Full } ∷ []) ≡ some NotStanding
-    go true true n = absurd (n tt)
-    go true false n = refl
-    go false true n = refl
-    go false false n = refl
+    not-named : (x : Bool) {y : Bool} → y ≡ false → x && y ≡ false
+    not-named true n = n
+    not-named false n = refl

@@ -14,9 +14,10 @@ use Rattle.walks.specs.Walk.{weightOf}
 use Rattle.walks.specs.Avoid.{occurs, occurs→Occurs}
 use Rattle.walks.specs.Best.{Best, None}
 use Rattle.book.specs.declared.Refusal.{Refusal}
+use Rattle.book.specs.Book.{isPath}
 use Rattle.limits.specs.Limits.{mostPaths, areaSize, longest}
 use Rattle.automaton.specs.Chosen.{Decided}
-use Rattle.trial_rules.specs.Trials.{Report, passed, failed, State, standing, takes, ForbiddenSet, Valid, Plan, Planner, refusal, overlaid, holding, step, unless, after, run, accepted, EachAccepted, named, failures, passes, replanned, Begin, begun}
+use Rattle.trial_rules.specs.Trials.{Report, passed, failed, State, standing, ForbiddenSet, Valid, Plan, Planner, refusal, overlaid, holding, step, unless, after, run, accepted, EachAccepted, named, failures, passes, replanned, Begin, begun}
 use Rattle.trial_rules.specs.Lacking.{distinct-snoc}
 use Rattle.trial_rules.specs.Accepted.{begin-accepted, Accepts, accepts}
 
@@ -149,7 +150,7 @@ pub one-more : (g : Graph) (σ : State) (r : List ℕ) → Accepts g σ (failed 
 one-more g σ r a =
     let v = a .valid in
     let open-stage : σ .rec .stage ≢ 2 = λ e. omega (arith, a .stage) in
-    let n = T-and (takes (g .count) r) (occurs r (standing σ)) (a .named) in
+    let n = T-and (isPath (g .count) r) (occurs r (standing σ)) (a .named) in
     let stands = occurs→Occurs r (standing σ) (n .1) in
     let room = ltb→lt (σ .rec .known) mostPaths (a .room) in
     record {
@@ -157,7 +158,7 @@ one-more g σ r a =
       distinct = distinct-snoc (σ .forbidden) r (v .set .distinct) (λ m. v .walk open-stage .clear r m stands);
       taken =
           λ q m.
-          ⊎-elim (v .set .taken q) (λ k. subst (λ (x : List ℕ). T (takes (g .count) x)) (sym (List·Memᴰ·eq-of-singleton k)) (n .0))
+          ⊎-elim (v .set .taken q) (λ k. subst (λ (x : List ℕ). T (isPath (g .count) x)) (sym (List·Memᴰ·eq-of-singleton k)) (n .0))
           (List·Memᴰ·append-cases (σ .forbidden) m);
     }
 

@@ -1,41 +1,40 @@
 -- The different paths of two sets together, and those that the first lacks.
 use Prim.Native.Nat.{ℕ}
-use mathlib.Core.Path.{_≡_, refl, sym}
-use mathlib.Core.Bool.{Bool, true, false, cond}
+use mathlib.Core.Path.{_≡_, refl, sym, _∙_}
+use mathlib.Core.Bool.{Bool, true, false, cond, true≢false}
 use mathlib.Core.List.{List, [], _∷_, _++_, List·Memᴰ, List·Memᴰ·head, List·Memᴰ·tail, List·Memᴰ·not-nil, List·Memᴰ·cases-cons, List·Memᴰ·append-cases, List·Memᴰ·eq-of-singleton, Memᴰ·cast, Memᴰ·append-left, Memᴰ·append-right}
 use mathlib.Core.Logic.{_⊎_, inl, inr, ⊎-elim}
 use Rattle.lists.specs.Distinct.{Distinct, Dedup}
-use Rattle.lists.specs.Test.{any}
-use Rattle.walks.specs.Avoid.{same}
-use Rattle.trial_rules.specs.Tests.{true→T, same→mem, mem→same}
+use Rattle.rules.specs.Binding.{member}
+use Rattle.rules.specs.Sets.{member→Mem, Mem→member}
 
 -- The different paths of R that F lacks, each once (01: the lab's runs that the binding sheets lack).
 unfoldable pub lacking : List (List ℕ) → List (List ℕ) → List (List ℕ)
 lacking F [] = []
-lacking F (r ∷ R) = cond (any (same r) (F ++ R)) (lacking F R) (r ∷ lacking F R)
+lacking F (r ∷ R) = cond (member r (F ++ R)) (lacking F R) (r ∷ lacking F R)
 
 -- The different paths of F and R together, one in both counted once.
 abbrev pub together : List (List ℕ) → List (List ℕ) → List (List ℕ)
 together F R = F ++ lacking F R
 
 in-or-not : (r : List ℕ) (F : List (List ℕ)) → List·Memᴰ r F ⊎ (List·Memᴰ r F → ⊥)
-in-or-not r F = go (any (same r) F) refl
+in-or-not r F = go (member r F) refl
   where
-    go : (b : Bool) → any (same r) F ≡ b → List·Memᴰ r F ⊎ (List·Memᴰ r F → ⊥)
-    go true e = inl (same→mem r F (true→T _ e))
-    go false e = inr (λ m. rw e at (mem→same r F m))
+    go : (b : Bool) → member r F ≡ b → List·Memᴰ r F ⊎ (List·Memᴰ r F → ⊥)
+    go true e = inl (member→Mem r F e)
+    go false e = inr (λ m. true≢false (sym (Mem→member m) ∙ e))
 
 module _ (F : List (List ℕ)) where
   -- A path is lacking exactly if R has it and F does not.
   pub lacking-into : (R : List (List ℕ)) (r : List ℕ) → List·Memᴰ r R → (List·Memᴰ r F → ⊥) → List·Memᴰ r (lacking F R)
   unfolding lacking
   lacking-into [] r m n = m
-  lacking-into (q ∷ R) r m n = go (any (same q) (F ++ R)) refl (List·Memᴰ·cases-cons m) (λ k. lacking-into R r k n)
+  lacking-into (q ∷ R) r m n = go (member q (F ++ R)) refl (List·Memᴰ·cases-cons m) (λ k. lacking-into R r k n)
     where
-      go : (b : Bool) → any (same q) (F ++ R) ≡ b → (r ≡ q) ⊎ List·Memᴰ r R → (List·Memᴰ r R → List·Memᴰ r (lacking F R))
+      go : (b : Bool) → member q (F ++ R) ≡ b → (r ≡ q) ⊎ List·Memᴰ r R → (List·Memᴰ r R → List·Memᴰ r (lacking F R))
           → List·Memᴰ r (cond b (lacking F R) (q ∷ lacking F R))
       go true e (inl p) rec =
-          ⊎-elim (λ k. absurd (n (Memᴰ·cast p k))) (λ k. rec (Memᴰ·cast p k)) (List·Memᴰ·append-cases F (same→mem q (F ++ R) (true→T _ e)))
+          ⊎-elim (λ k. absurd (n (Memᴰ·cast p k))) (λ k. rec (Memᴰ·cast p k)) (List·Memᴰ·append-cases F (member→Mem q (F ++ R) e))
       go true e (inr k) rec = rec k
       go false e (inl p) rec = List·Memᴰ·head p
       go false e (inr k) rec = List·Memᴰ·tail (rec k)
@@ -43,9 +42,9 @@ module _ (F : List (List ℕ)) where
   pub lacking-from : (R : List (List ℕ)) (r : List ℕ) → List·Memᴰ r (lacking F R) → List·Memᴰ r R × (List·Memᴰ r F → ⊥)
   unfolding lacking
   lacking-from [] r m = absurd (List·Memᴰ·not-nil m)
-  lacking-from (q ∷ R) r m = go (any (same q) (F ++ R)) refl m (lacking-from R r)
+  lacking-from (q ∷ R) r m = go (member q (F ++ R)) refl m (lacking-from R r)
     where
-      go : (b : Bool) → any (same q) (F ++ R) ≡ b → List·Memᴰ r (cond b (lacking F R) (q ∷ lacking F R))
+      go : (b : Bool) → member q (F ++ R) ≡ b → List·Memᴰ r (cond b (lacking F R) (q ∷ lacking F R))
           → (List·Memᴰ r (lacking F R) → List·Memᴰ r R × (List·Memᴰ r F → ⊥)) → List·Memᴰ r (q ∷ R) × (List·Memᴰ r F → ⊥)
       go true e k rec =
           let h = rec k in
@@ -53,7 +52,7 @@ module _ (F : List (List ℕ)) where
       go false e k rec = cases (List·Memᴰ·cases-cons k)
         where
           cases : (r ≡ q) ⊎ List·Memᴰ r (lacking F R) → List·Memᴰ r (q ∷ R) × (List·Memᴰ r F → ⊥)
-          cases (inl p) = (List·Memᴰ·head p, λ f. rw e at (mem→same q (F ++ R) (Memᴰ·append-left R (Memᴰ·cast (sym p) f))))
+          cases (inl p) = (List·Memᴰ·head p, λ f. true≢false (sym (Mem→member (Memᴰ·append-left R (Memᴰ·cast (sym p) f))) ∙ e))
           cases (inr l) =
               let h = rec l in
               (List·Memᴰ·tail (h .0), h .1)
@@ -61,11 +60,11 @@ module _ (F : List (List ℕ)) where
   pub lacking-distinct : (R : List (List ℕ)) → Distinct (lacking F R)
   unfolding lacking
   lacking-distinct [] = tt
-  lacking-distinct (q ∷ R) = go (any (same q) (F ++ R)) refl (lacking-distinct R)
+  lacking-distinct (q ∷ R) = go (member q (F ++ R)) refl (lacking-distinct R)
     where
-      go : (b : Bool) → any (same q) (F ++ R) ≡ b → Distinct (lacking F R) → Distinct (cond b (lacking F R) (q ∷ lacking F R))
+      go : (b : Bool) → member q (F ++ R) ≡ b → Distinct (lacking F R) → Distinct (cond b (lacking F R) (q ∷ lacking F R))
       go true e d = d
-      go false e d = (λ m. rw e at (mem→same q (F ++ R) (Memᴰ·append-right F (lacking-from R q m .0))), d)
+      go false e d = (λ m. true≢false (sym (Mem→member (Memᴰ·append-right F (lacking-from R q m .0))) ∙ e), d)
 
 distinct-append : {A : Type 0} (l m : List A) → Distinct l → Distinct m → ((a : A) → List·Memᴰ a l → List·Memᴰ a m → ⊥) → Distinct (l ++ m)
 distinct-append [] m d e h = e

@@ -14,9 +14,10 @@ use Rattle.lists.specs.Distinct.{Distinct, distinct-length}
 use Rattle.walks.specs.Walk.{weightOf}
 use Rattle.walks.specs.Order.{≼-weight}
 use Rattle.walks.specs.Avoid.{occurs, Occurs, Occurs→occurs, Avoids, _⊆_}
+use Rattle.book.specs.Book.{isPath}
 use Rattle.walks.specs.Best.{Feasible, Best, None, Best·mono, None·mono, Best·not-None}
 use Rattle.limits.specs.Limits.{mostPaths}
-use Rattle.trial_rules.specs.Trials.{Report, passed, failed, State, standing, trials, takes, refusal, isNamed, hasRoom, stageOf, step, EachAccepted, named, failures, Begin, begun, stateAfter, acceptedOf}
+use Rattle.trial_rules.specs.Trials.{Report, passed, failed, State, standing, trials, refusal, isNamed, hasRoom, stageOf, step, EachAccepted, named, failures, Begin, begun, stateAfter, acceptedOf}
 use Rattle.trial_rules.specs.Accepted.{begin-accepted, not-refused}
 use Rattle.trial_rules.specs.Lacking.{lacking, together, together-is, distinct-snoc}
 use Rattle.trial_rules.specs.Invariant.{Invariant, invariant-begin, invariant-step, kept, named-failed, named-passed}
@@ -29,7 +30,7 @@ TrueTo R σ (failed r) = List·Memᴰ r R × Occurs r (standing σ)
 
 -- The oracle's set (01): runs, all over the book's grades, that make at most 256 different ones with the binding sheets'.
 pub record OracleSet (b : Begin) (R : List (List ℕ)) : Type 0 where
-  pub taken : (r : List ℕ) → List·Memᴰ r R → T (takes (b .graph .count) r)
+  pub taken : (r : List ℕ) → List·Memᴰ r R → T (isPath (b .graph .count) r)
   pub few : length (together (b .bound) R) ≤ mostPaths
 
 -- The oracle is true to R: each of its accepted reports is; its refused ones may be anything.
@@ -41,7 +42,7 @@ module _ (b : Begin) where
 
   -- Demand 3, sentence by sentence, of the state σ that begin and then the accepted reports `done` led to. F₀ are the binding sheets'
   -- runs, R the lab's.
-  pub record Outcome (R : List (List ℕ)) (done : List Report) (σ : State) : Type 0 where
+  pub record OracleOutcome (R : List (List ℕ)) (done : List Report) (σ : State) : Type 0 where
     -- Record and areas are as 01's rules for trials give them.
     pub rules : Claim b done σ
     -- The record's failed count is the number of failed reports that were accepted, and at most the number of the lab's runs that the
@@ -130,11 +131,11 @@ module _ (b : Begin) (R : List (List ℕ)) (set : OracleSet b R) where
         let within : (F ++ (r ∷ [])) ⊆ (F₀ ++ R) =
         λ p m. ⊎-elim (known-in p) (λ k. Memᴰ·cast (List·Memᴰ·eq-of-singleton k) (Memᴰ·append-right F₀ (q .0))) (List·Memᴰ·append-cases F m) in
         let all-fit = no-more (F ++ (r ∷ [])) (distinct-snoc F r (c .valid .set .distinct) new) within in (
-          and-i (takes (g .count) r) (occurs r (standing σ)) (set .taken r (q .0)) (Occurs→occurs r (standing σ) (q .1)),
+          and-i (isPath (g .count) r) (occurs r (standing σ)) (set .taken r (q .0)) (Occurs→occurs r (standing σ) (q .1)),
           lt→ltb (σ .rec .known) mostPaths (omega (arith, rw length-append at all-fit, rw length-append at (set .few), c .valid .known)),
         )
 
-    outcome : Outcome b R done σ
+    outcome : OracleOutcome b R done σ
     outcome =
         let c = h .rules in
         let v = c .valid in
@@ -173,7 +174,7 @@ module _ (b : Begin) (R : List (List ℕ)) (set : OracleSet b R) where
 
 -- Demand 3: for every accepted begin, every set R, and every list of reports, passed or failed, refused ones included, from an oracle that
 -- is true to R.
-pub oracle : (b : Begin) (R : List (List ℕ)) → OracleSet b R → (ρs : List Report) → TrueOracle b R ρs → Outcome b R (acceptedOf b ρs) (stateAfter b ρs)
+pub oracle : (b : Begin) (R : List (List ℕ)) → OracleSet b R → (ρs : List Report) → TrueOracle b R ρs → OracleOutcome b R (acceptedOf b ρs) (stateAfter b ρs)
 oracle b R set ρs true-to-R =
     outcome b R set (acceptedOf b ρs) (stateAfter b ρs)
     (kept (b .graph) (b .plan) (Sound b R set) (TrueTo R) (sound-step b R set) ρs [] (begun b) true-to-R (sound-begin b R set))

@@ -9,24 +9,18 @@ use lib.ListN.{length}
 use borrow.Author.Tests.{eqb-true, eqb-false}
 use lib.Ieee.Fits.{and-i, and-l, and-r}
 use Rattle.lists.specs.Distinct.{Distinct}
-use Rattle.lists.specs.Test.{conj, all, all→each, any, any→some, some→any}
+use Rattle.lists.specs.Test.{T→true, true→T, conj, all, all→each, any}
 use Rattle.walks.specs.Graph.{Graph}
 use Rattle.walks.specs.Walk.{weightOf}
-use Rattle.walks.specs.Avoid.{same, same→≡, same-refl}
+use Rattle.walks.specs.Avoid.{same}
 use Rattle.walks.specs.Best.{Feasible}
 use Rattle.walks.specs.Feasible.{isFeasible, isFeasible→Feasible, Feasible→isFeasible}
-use Rattle.book.specs.Book.{All, IsPath, VerticesOnce, simple, names}
-use Rattle.book.specs.BookLaws.{simple-below, simple-once}
+use Rattle.book.specs.Book.{All, IsPath, isPath}
+use Rattle.book.specs.BookLaws.{isPath→IsPath, IsPath→isPath}
 use Rattle.rules.specs.Binding.{once}
+use Rattle.rules.specs.Sets.{member→Mem, Mem→member}
 use Rattle.limits.specs.Limits.{mostPaths, longest}
-use Rattle.trial_rules.specs.Trials.{State, standing, passedIn, takes, ForbiddenSet, Valid, isForbiddenSet, isValid, isRecord}
-
-pub T→true : (b : Bool) → T b → b ≡ true
-T→true true t = refl
-T→true false t = absurd t
-
-pub true→T : (b : Bool) → b ≡ true → T b
-true→T b e = rw e tt
+use Rattle.trial_rules.specs.Trials.{State, standing, passedIn, ForbiddenSet, Valid, isForbiddenSet, isValid, isRecord}
 
 eq→eqb : (m n : ℕ) → m ≡ n → T (eqb m n)
 eq→eqb m n e = rw e (eqb-refl n)
@@ -35,43 +29,11 @@ each→all : {A : Type 0} (p : A → Bool) (l : List A) → ((a : A) → List·M
 each→all p [] h = tt
 each→all p (a ∷ l) h = and-i (p a) (all p l) (h a (List·Memᴰ·head refl)) (each→all p l (λ b m. h b (List·Memᴰ·tail m)))
 
--- The book's rules for runs take what the book calls a path.
-pub takes→IsPath : (count : ℕ) (r : List ℕ) → T (takes count r) → IsPath count r
-unfolding takes
-takes→IsPath count r t =
-    let simple-is = T→true (simple count r) (search conj) in
-    record {
-      two = leb→le 2 (length r) (search conj);
-      eight = leb→le (length r) 8 (search conj);
-      below = simple-below count r simple-is;
-      once = simple-once count r simple-is;
-    }
-
-pub IsPath→takes : (count : ℕ) (r : List ℕ) → IsPath count r → T (takes count r)
-unfolding takes simple
-IsPath→takes count r p = search (conj, le→leb 2 (length r) (p .two), le→leb (length r) 8 (p .eight), is-simple r (p .below) (p .once))
-  where
-    is-simple : (vs : List ℕ) → All (λ v. v < count) vs → VerticesOnce vs → T (simple count vs)
-    is-simple [] b o = tt
-    is-simple (v ∷ vs) b o =
-        and-i (ltb v count && not (names vs v)) (simple count vs)
-        (and-i (ltb v count) (not (names vs v)) (lt→ltb v count (b .0)) (true→T (not (names vs v)) (rw (o .0) refl)))
-        (is-simple vs (b .1) (o .1))
-
--- r is in F exactly if a path of F is the same.
-pub same→mem : (r : List ℕ) (F : List (List ℕ)) → T (any (same r) F) → List·Memᴰ r F
-same→mem r F t =
-    let h = any→some (same r) F t in
-    Memᴰ·cast (same→≡ r (h .0) (h .2)) (h .1)
-
-pub mem→same : (r : List ℕ) (F : List (List ℕ)) → List·Memᴰ r F → T (any (same r) F)
-mem→same r F m = some→any (same r) m (same-refl r)
-
 pub once→Distinct : (F : List (List ℕ)) → T (once F) → Distinct F
 unfolding once
 once→Distinct [] t = tt
 once→Distinct (r ∷ F) t = (
-  λ m. T-not (any (same r) F) (and-l (not (any (same r) F)) (once F) t) (mem→same r F m),
+  λ m. T-not (any (same r) F) (and-l (not (any (same r) F)) (once F) t) (true→T _ (Mem→member m)),
   once→Distinct F (and-r (not (any (same r) F)) (once F) t),
 )
 
@@ -79,11 +41,11 @@ pub Distinct→once : (F : List (List ℕ)) → Distinct F → T (once F)
 unfolding once
 Distinct→once [] d = tt
 Distinct→once (r ∷ F) d =
-    and-i (not (any (same r) F)) (once F) (not-T (any (same r) F) (λ t. d .0 (same→mem r F t))) (Distinct→once F (d .1))
+    and-i (not (any (same r) F)) (once F) (not-T (any (same r) F) (λ t. d .0 (member→Mem r F (T→true _ t)))) (Distinct→once F (d .1))
 
 -- What binding gives is a forbidden set: at most 256 different paths of the book.
 pub forbidden-set : (count : ℕ) (F : List (List ℕ)) → length F ≤ mostPaths → Distinct F → All (IsPath count) F → ForbiddenSet count F
-forbidden-set count F few distinct are-paths = record { few = few; distinct = distinct; taken = λ r m. IsPath→takes count r (each are-paths m) }
+forbidden-set count F few distinct are-paths = record { few = few; distinct = distinct; taken = λ r m. true→T _ (IsPath→isPath count r (each are-paths m)) }
   where
     each : {G : List (List ℕ)} {r : List ℕ} → All (IsPath count) G → List·Memᴰ r G → IsPath count r
     each h (List·Memᴰ·head e) = rw e (h .0)
@@ -96,13 +58,13 @@ module _ (count : ℕ) (F : List (List ℕ)) where
       record {
         few = leb→le (length F) mostPaths (search conj);
         distinct = once→Distinct F (search conj);
-        taken = λ r m. all→each (takes count) (search conj) m;
+        taken = λ r m. all→each (isPath count) (search conj) m;
       }
 
   pub →isForbiddenSet : ForbiddenSet count F → T (isForbiddenSet count F)
   unfolding isForbiddenSet
   →isForbiddenSet h =
-      search (conj, le→leb (length F) mostPaths (h .few), Distinct→once F (h .distinct), each→all (takes count) F (h .taken))
+      search (conj, le→leb (length F) mostPaths (h .few), Distinct→once F (h .distinct), each→all (isPath count) F (h .taken))
 
 module _ (g : Graph) (σ : State) where
   -- the last of isValid's tests
@@ -168,3 +130,15 @@ module _ (g : Graph) (σ : State) where
       last false e =
           let ne : σ .rec .stage ≢ 2 = eqb-false _ _ e in
           search (conj, Feasible→isFeasible g (σ .forbidden) (σ .rec .start) (σ .rec .end) (standing σ) (v .walk ne), eq→eqb (σ .rec .litres) (weightOf g (standing σ)) (v .litres ne))
+
+-- A forbidden set as the laws of the runs area ask for it.
+module _ (v : ℕ) (F : List (List ℕ)) (set : ForbiddenSet v F) where
+  pub set-paths : All (IsPath v) F
+  set-paths = each F (λ r m. isPath→IsPath v r (T→true _ (set .taken r m)))
+    where
+      each : (G : List (List ℕ)) → ((r : List ℕ) → List·Memᴰ r G → IsPath v r) → All (IsPath v) G
+      each [] h = tt
+      each (r ∷ G) h = (h r (List·Memᴰ·head refl), each G (λ q m. h q (List·Memᴰ·tail m)))
+
+  pub set-once : once F ≡ true
+  set-once = T→true (once F) (Distinct→once F (set .distinct))

@@ -15,10 +15,8 @@ use Rattle.walks.specs.Avoid.{occurs}
 use Rattle.walks.specs.Best.{Feasible}
 use Rattle.walks.specs.Feasible.{isFeasible}
 use Rattle.book.specs.declared.Refusal.{Refusal}
-use Rattle.book.specs.declared.Kind.the-variants.{Path}
-use Rattle.book.specs.Refusal.{refusalOf}
-use Rattle.book.specs.Book.{simple}
-use Rattle.book.specs.Reading.{fits}
+use Rattle.book.specs.Refusal.{Test, test, refusalBy}
+use Rattle.book.specs.Book.{isPath}
 use Rattle.automaton.specs.Chosen.{Decided}
 use Rattle.rules.specs.Binding.{once}
 use Rattle.rules.specs.Area.{written}
@@ -52,15 +50,11 @@ abbrev pub trials : State → ℕ
 trials σ = σ .rec .failed + σ .rec .passed
 
 -- ---- refusal 9
--- The book's rules for runs take r, in a book with `count` vertices. This is the only test of a forbidden path's vertices.
-unfoldable pub takes : ℕ → List ℕ → Bool
-takes count r = fits Path (length r) && simple count r
-
 -- What 9 asks of the forbidden set: not over 256 paths, none repeated, each one that the book's rules take.
 pub record ForbiddenSet (count : ℕ) (F : List (List ℕ)) : Type 0 where
   pub few : length F ≤ mostPaths
   pub distinct : Distinct F
-  pub taken : (r : List ℕ) → List·Memᴰ r F → T (takes count r)
+  pub taken : (r : List ℕ) → List·Memᴰ r F → T (isPath count r)
 
 -- 01: passed is 1 in stage 1 and 0 otherwise.
 abbrev pub passedIn : ℕ → ℕ
@@ -88,7 +82,7 @@ pub record Valid (g : Graph) (σ : State) : Type 0 where
 
 -- The tests of both; specs/Tests.antt proves that they decide them.
 unfoldable pub isForbiddenSet : ℕ → List (List ℕ) → Bool
-isForbiddenSet count F = leb (length F) mostPaths && once F && all (takes count) F
+isForbiddenSet count F = leb (length F) mostPaths && once F && all (isPath count) F
 
 -- The record of a state whose forbidden set is one.
 unfoldable pub isRecord : Graph → State → Bool
@@ -106,16 +100,15 @@ isRecord g σ =
 unfoldable pub isValid : Graph → State → Bool
 isValid g σ = isForbiddenSet (g .count) (σ .forbidden) && eqb (σ .rec .known) (length (σ .forbidden)) && isRecord g σ
 
--- ---- the refusals of begin and of a report, under a book that reads well; the order is that of `refusalOf`
+-- ---- the refusals of begin and of a report, under a book that reads well
 -- 8: both areas are long enough.
-abbrev pub areasFit : List ℕ → List ℕ → Bool
-areasFit paths area = leb areaSize (length paths) && leb longest (length area)
+abbrev pub areaTests : List ℕ → List ℕ → List Test
+areaTests paths area = test 8 (leb areaSize (length paths)) ∷ test 8 (leb longest (length area)) ∷ []
 
--- 12: the named path has 2 to 8 vertices, none named twice, and stands in the standing walk. (`takes` also asks that they are below the
--- count, as all vertices of a walk are.)
+-- 12: the named path is one that the book's rules take, and stands in the standing walk.
 abbrev pub isNamed : Graph → State → Report → Bool
 isNamed g σ passed = true
-isNamed g σ (failed r) = takes (g .count) r && occurs r (standing σ)
+isNamed g σ (failed r) = isPath (g .count) r && occurs r (standing σ)
 
 -- 13: the named path is not a 257th.
 abbrev pub hasRoom : State → Report → Bool
@@ -123,34 +116,22 @@ hasRoom σ passed = true
 hasRoom σ (failed r) = ltb (σ .rec .known) mostPaths
 
 -- Begin: 8, 7.
-unfoldable pub beginRefusal : Graph → ℕ → ℕ → List ℕ → List ℕ → Option Refusal
-beginRefusal g s t paths area =
-    refusalOf
-    (record {
-      book = none;
-      areas = areasFit paths area;
-      endpoints = ltb s (g .count) && ltb t (g .count);
-      valid = true;
-      walk = true;
-      standing = true;
-      named = true;
-      room = true;
-    })
+abbrev pub beginTests : Graph → ℕ → ℕ → List ℕ → List ℕ → List Test
+beginTests g s t paths area = areaTests paths area ++ (test 7 (ltb s (g .count)) ∷ test 7 (ltb t (g .count)) ∷ [])
+
+abbrev pub beginRefusal : Graph → ℕ → ℕ → List ℕ → List ℕ → Option Refusal
+beginRefusal g s t paths area = refusalBy (beginTests g s t paths area)
+
+-- The oracle's own tests: 11, 12, 13.
+abbrev pub oracleTests : Graph → State → Report → List Test
+oracleTests g σ ρ = test 11 (eqb (σ .rec .stage) 0) ∷ test 12 (isNamed g σ ρ) ∷ test 13 (hasRoom σ ρ) ∷ []
 
 -- A report: 8, 9, 11, 12, 13.
+abbrev pub reportTests : Graph → State → Report → List Test
+reportTests g σ ρ = areaTests (pathArea σ) (σ .area) ++ (test 9 (isValid g σ) ∷ oracleTests g σ ρ)
+
 unfoldable pub refusal : Graph → State → Report → Option Refusal
-refusal g σ ρ =
-    refusalOf
-    (record {
-      book = none;
-      areas = areasFit (pathArea σ) (σ .area);
-      endpoints = true;
-      valid = isValid g σ;
-      walk = true;
-      standing = eqb (σ .rec .stage) 0;
-      named = isNamed g σ ρ;
-      room = hasRoom σ ρ;
-    })
+refusal g σ ρ = refusalBy (reportTests g σ ρ)
 
 -- ---- the three rules
 -- A plan for each forbidden set, start and end; a planner of g answers rightly wherever planning is not refused.

@@ -11,7 +11,7 @@ use Rattle.walks.specs.Graph.{Arc}
 use Rattle.book.specs.Book.{Book, IsArc, properArc}
 use Rattle.book.specs.BookLaws.{is-arc}
 use Rattle.listed.specs.declared.Verdict.{Verdict}
-use Rattle.listed.specs.Listing.{arcOf, judged}
+use Rattle.listed.specs.Listing.{arcOf, withItem}
 use Rattle.listed.specs.Standing.{Stands}
 use Rattle.listed.specs.StandingLaws.{improper, repeated, added-stands}
 use Rattle.listed.proofs.enter.Statement.{statement}
@@ -57,8 +57,8 @@ arc-is c =
 -- what stands for the one stands for the other
 read-arc : (c : tie.After-proper-arc) (b : Book) (v : Verdict) (t : List _)
     → let a = c .before .before .before .before .args in
-    Stands (a .vertices) (judged b (a .i) (arc-of c)) v t → Stands (a .vertices) (judged b (a .i) (arcOf (a .arc))) v t
-read-arc c b v t s = let a = c .before .before .before .before .args in subst (λ x. Stands (a .vertices) (judged b (a .i) x) v t) (arc-is c) s
+    Stands (a .vertices) (withItem b (a .i) (arc-of c)) v t → Stands (a .vertices) (withItem b (a .i) (arcOf (a .arc))) v t
+read-arc c b v t s = let a = c .before .before .before .before .args in subst (λ x. Stands (a .vertices) (withItem b (a .i) x) v t) (arc-is c) s
 
 tested : (c : tie.After-proper-arc) (x : Bool) → c .proper-arc .result ≡ x → properArc (c .before .before .before .before .args .vertices) (arc-of c) ≡ x
 tested c x e = sym (c .proper-arc .ensures) ∙ e
@@ -78,7 +78,7 @@ inside c =
     let start = c .before .before .before .before .before in
     let (b, h) = start .pre in
     let within : IsArc (start .args .vertices) (arc-of (c .before)) = is-arc _ _ (proper c) in
-    omega (arith, h .count-is, h .well .few-vertices, within .tail-below, within .head-below)
+    omega (arith, h .vertices-are, h .well .few-vertices, within .tail-below, within .head-below)
 
 element-copy-out-if2 : tie.Need-element-copy-out-if2
 element-copy-out-if2 c = inside c
