@@ -1,6 +1,6 @@
 -- The refusals: 01's number and value for each, the tests that lead to them, and the order between the tests of an operation.
 use Prim.Native.Nat.{ℕ}
-use mathlib.Core.Bool.{Bool, true, false, cond}
+use mathlib.Core.Bool.{Bool, true, false, cond, _&&_}
 use mathlib.Core.List.{List, [], _∷_, _++_}
 use mathlib.Core.Option.{Option, none, some}
 use lib.Dec.{eqb}
@@ -53,6 +53,11 @@ test = testAt 0
 abbrev pub firstFailure : List Test → Option Refusal
 firstFailure [] = none
 firstFailure (t ∷ ts) = cond (t .holds) (firstFailure ts) (some (t .refusal))
+
+-- Whether all hold.
+abbrev pub allHold : List Test → Bool
+allHold [] = true
+allHold (t ∷ ts) = t .holds && allHold ts
 
 -- The order between the tests of an operation; 1 to 6, the book's, come before them.
 abbrev pub order : List ℕ

@@ -3,8 +3,9 @@ use mathlib.Core.Path.{_≡_, refl, sym}
 use mathlib.Core.Bool.{Bool, true, false, cond}
 use mathlib.Core.List.{List, [], _∷_, _++_}
 use mathlib.Core.Option.{none, some, Option·none-ne-some}
+use Rattle.lists.specs.Test.{and-true}
 use Rattle.book.specs.declared.Refusal.{Refusal}
-use Rattle.book.specs.Refusal.{Test, firstFailure}
+use Rattle.book.specs.Refusal.{Test, firstFailure, allHold}
 use Rattle.book.specs.Book.{All}
 
 abbrev pub Hold : List Test → Type 0
@@ -32,6 +33,20 @@ none→hold (t ∷ ts) e = go (t .holds) refl (none→hold ts) e
     go : (h : Bool) → t .holds ≡ h → (firstFailure ts ≡ none → Hold ts) → cond h (firstFailure ts) (some (t .refusal)) ≡ none → Hold (t ∷ ts)
     go true p rest q = (p, rest q)
     go false p rest q = absurd (Option·none-ne-some _ (sym q))
+
+pub hold→all : (ts : List Test) → Hold ts → allHold ts ≡ true
+hold→all [] h = refl
+hold→all (t ∷ ts) h = rw (h .0) (hold→all ts (h .1))
+
+pub all→hold : (ts : List Test) → allHold ts ≡ true → Hold ts
+all→hold [] e = tt
+all→hold (t ∷ ts) e =
+    let (now, rest) = and-true (t .holds) (allHold ts) e in
+    (now, all→hold ts rest)
+
+pub fails→not-all : {ts : List Test} {r : Refusal} → Fails ts r → allHold ts ≡ false
+fails→not-all (here e) = rw e refl
+fails→not-all (later e f) = rw e (fails→not-all f)
 
 -- The tests of a first list decide where one of them fails, and else those of the second.
 pub first-of-append : (ts us : List Test) → firstFailure ts ≡ none → firstFailure (ts ++ us) ≡ firstFailure us

@@ -31,7 +31,7 @@ use Rattle.trials.specs.declared.Begun.{Begun}
 use Rattle.trials.specs.declared.Reported.{Reported}
 use Rattle.trial_rules.specs.Trials.{Report, failed, State, pathArea, trials, takes, Valid, isForbiddenSet, isRecord, isValid, beginRefusal, refusal, Plan, Planner, holding, unless, step, after, run}
 use Rattle.series.specs.Reports.{reportsIn, reportsOf}
-use Rattle.trials.specs.Operations.{Left, left, begunAs, firstState, beginningOf, beginning, reportedAs, reportingOf, reporting, replayingOf, replaying}
+use Rattle.trials.specs.Operations.{Leaves, leaves, begunAs, firstState, beginningOf, beginning, reportedAs, reportingOf, reporting, replayingOf, replaying}
 use Rattle.trial_rules.specs.Tests.{isForbiddenSet→, isValid→Valid}
 use Rattle.trial_rules.specs.Plans.{plan-best, plan-none}
 use Rattle.trials.specs.Replanning.{chosen-planner}
@@ -55,8 +55,8 @@ Plans s flags start end r w =
 abbrev pub Stands : Type 0
 Stands = List ℕ → List ℕ → State
 
-abbrev pub leaving : {A : Type 0} → A → State → Left A
-leaving a σ = left a (pathArea σ) (σ .area)
+abbrev pub leaving : {A : Type 0} → A → State → Leaves A
+leaving a σ = leaves a (pathArea σ) (σ .area)
 
 -- Begin under these marks leads to σ.
 abbrev pub Begins : ℕ → Stands → Type 0

@@ -1,7 +1,7 @@
 -- The laws of binding and of the check.
 use Prim.Native.Nat.{ℕ, _≤_}
 use mathlib.Core.Bool.{Bool, true, false, cond}
-use mathlib.Core.List.{List, [], _∷_, _++_, List·Memᴰ, List·Memᴰ·head, List·Memᴰ·tail, List·Memᴰ·cases-cons, List·Memᴰ·append-cases, List·Memᴰ·not-nil, Memᴰ·append-left, Memᴰ·append-right, List·Permᴰ, List·Permᴰ·nil, List·Permᴰ·cons, List·Permᴰ·swap, List·Permᴰ·trans, Permᴰ·symm}
+use mathlib.Core.List.{List, [], _∷_, _++_, append-nil, List·Memᴰ, List·Memᴰ·head, List·Memᴰ·tail, List·Memᴰ·cases-cons, List·Memᴰ·append-cases, List·Memᴰ·not-nil, Memᴰ·append-left, Memᴰ·append-right, List·Permᴰ, List·Permᴰ·nil, List·Permᴰ·cons, List·Permᴰ·swap, List·Permᴰ·trans, Permᴰ·symm}
 use mathlib.Core.Logic.{⊎-elim}
 use mathlib.Core.Option.{Option, none, some}
 use mathlib.Core.Path.{_≡_, refl, sym, ap, ap₂, subst, _∙_}
@@ -13,7 +13,7 @@ use Rattle.walks.specs.Avoid.{Avoids, _⊆_}
 use Rattle.book.specs.declared.Refusal.{Refusal}
 use Rattle.book.specs.Refusal.{Test, test, refusalBy}
 use Rattle.book.specs.RefusalLaws.{none→hold, hold→none, first-of-append}
-use Rattle.book.specs.Book.{RuleSet, Book, All, IsPath, graph}
+use Rattle.book.specs.Book.{RuleSet, Book, WellFormed, All, IsPath, graph}
 use Rattle.book.specs.BookLaws.{reading-is-book}
 use Rattle.book.specs.Reading.{Reading, reading, refusalOf}
 use Rattle.rules.specs.declared.Checked.{Checked}
@@ -82,6 +82,23 @@ same-set flags b c d = (within b c d, within c b (Permᴰ·symm d))
         let a = known→Applied flags (b .sets) m in
         Applied→known flags (c .sets) (record { set = a .set; listed = permuted d (a .listed); applying = a .applying; path = a .path })
 
+-- ---- what gathering leaves in a blank area: it is valid, and spells the known paths
+module _ (flags : ℕ) (b : Book) (w : WellFormed b) {n : ℕ} {area : List ℕ} (counted : n ≡ length (known flags (b .sets))) (filled : area ≡ written (known flags (b .sets))) where
+  abbrev F : List (List ℕ)
+  F = known flags (b .sets)
+
+  whole : area ≡ written F ++ []
+  whole = filled ∙ sym (append-nil (written F))
+
+  pub gathered-length : length area ≡ areaSize
+  gathered-length = ap length filled ∙ written-length (b .count) F (known-few flags b w) (known-paths flags b w) (known-once flags b w) []
+
+  pub gathered-valid : valid (b .count) area n ≡ true
+  gathered-valid = ap₂ (valid (b .count)) whole counted ∙ written-valid (b .count) F (known-few flags b w) (known-paths flags b w) (known-once flags b w) []
+
+  pub gathered-spells : spelled n area ≡ known flags (b .sets)
+  gathered-spells = ap₂ spelled counted whole ∙ written-spells (b .count) F (known-few flags b w) (known-paths flags b w) (known-once flags b w) []
+
 -- ---- an accepted bind
 -- What the area then holds.
 pub record Filled (s : List ℕ) (flags : ℕ) (area : List ℕ) (F : List (List ℕ)) : Type 0 where
@@ -127,7 +144,7 @@ module _ (s : List ℕ) (flags : ℕ) (area : List ℕ) where
 
 -- ---- the check
 -- the paths of a valid area have 2 to 8 vertices
-sizes : (v : ℕ) (F : List (List ℕ)) → All (IsPath v) F → (r : List ℕ) → List·Memᴰ r F → (2 ≤ length r) × (length r ≤ 8)
+pub sizes : (v : ℕ) (F : List (List ℕ)) → All (IsPath v) F → (r : List ℕ) → List·Memᴰ r F → (2 ≤ length r) × (length r ≤ 8)
 sizes v [] h r m = absurd (List·Memᴰ·not-nil m)
 sizes v (p ∷ F) h r m =
     ⊎-elim (λ here. (rw here (h .0 .two), rw here (h .0 .eight))) (sizes v F (h .1) r) (List·Memᴰ·cases-cons m)

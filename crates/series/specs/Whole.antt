@@ -12,7 +12,7 @@ use Rattle.trial_record.specs.declared.Record.{Record}
 use Rattle.trials.specs.declared.Begun.{Begun}
 use Rattle.trials.specs.declared.Reported.{Reported}
 use Rattle.trial_rules.specs.Trials.{Report, State, pathArea, beginRefusal, refusal, Valid, unless, step, after, run, Begin, begun, stateAfter, acceptedOf}
-use Rattle.trials.specs.Operations.{Left, left, begunAs, beginningOf, beginning, reportedAs, reportingOf, reporting, replayingOf, replaying, recordIn}
+use Rattle.trials.specs.Operations.{Leaves, leaves, begunAs, beginningOf, beginning, reportedAs, reportingOf, reporting, replayingOf, replaying, recordIn}
 use Rattle.trials.specs.OperationLaws.{same-step}
 use Rattle.series.specs.Reports.{reportsOf}
 use Rattle.trials.specs.Replanning.{trialsOf}
@@ -21,17 +21,17 @@ use Rattle.trial_rules.specs.Claim.{Claim, claim}
 use Rattle.trial_rules.specs.Oracle.{OracleSet, TrueOracle, OracleOutcome, oracle}
 
 -- What a state leaves: its record, and every byte of both areas.
-abbrev pub leftBy : State → Left Record
-leftBy σ = left (σ .rec) (pathArea σ) (σ .area)
+abbrev pub leavesOf : State → Leaves Record
+leavesOf σ = leaves (σ .rec) (pathArea σ) (σ .area)
 
 -- A report on what begin or the report before it left.
-abbrev pub reportOn : List ℕ → Left Record → Report → Left Record
+abbrev pub reportOn : List ℕ → Leaves Record → Report → Leaves Record
 reportOn s l ρ =
     let m = reporting s (l .answer) (l .paths) (l .walk) ρ in
-    left (recordIn (m .answer)) (m .paths) (m .walk)
+    leaves (recordIn (m .answer)) (m .paths) (m .walk)
 
 -- A list of them (01: each gets the begin's book, and record and areas as begin or the report before it left them).
-unfoldable pub reportsOn : List ℕ → Left Record → List Report → Left Record
+unfoldable pub reportsOn : List ℕ → Leaves Record → List Report → Leaves Record
 reportsOn s l [] = l
 reportsOn s l (ρ ∷ ρs) = reportsOn s (reportOn s l ρ) ρs
 
@@ -46,17 +46,17 @@ after-keeps t σ ρ done c = go (refusal (t .graph) σ ρ) refl
 
 module _ (s : List ℕ) (b : Book) (read : reading s ≡ accepted b) where
   -- A report on a state in order leaves the state that the rules give; a refused one is as if not made.
-  pub report-leaves : (σ : State) → Valid (graph b) σ → (ρ : Report) → reportOn s (leftBy σ) ρ ≡ leftBy (after (graph b) (chosen (graph b)) σ ρ)
+  pub report-leaves : (σ : State) → Valid (graph b) σ → (ρ : Report) → reportOn s (leavesOf σ) ρ ≡ leavesOf (after (graph b) (chosen (graph b)) σ ρ)
   report-leaves σ v ρ =
       ap next (ap (λ x. reportingOf x (σ .rec) (pathArea σ) (σ .area) ρ) read ∙ same-step b σ v ρ) ∙ go (refusal (graph b) σ ρ)
     where
-      next : Left Reported → Left Record
-      next m = left (recordIn (m .answer)) (m .paths) (m .walk)
+      next : Leaves Reported → Leaves Record
+      next m = leaves (recordIn (m .answer)) (m .paths) (m .walk)
 
       σ′ : State
       σ′ = step (graph b) (chosen (graph b)) σ ρ
 
-      go : (o : Option Refusal) → next (reportedAs o σ′ (σ .rec) (pathArea σ) (σ .area)) ≡ leftBy (unless o σ′ σ)
+      go : (o : Option Refusal) → next (reportedAs o σ′ (σ .rec) (pathArea σ) (σ .area)) ≡ leavesOf (unless o σ′ σ)
       go none = refl
       go (some x) = refl
 
@@ -65,18 +65,18 @@ module _ (s : List ℕ) (b : Book) (read : reading s ≡ accepted b) where
     abbrev pub opened : Begin
     opened = trialsOf b (reading-is-book s b read .well-formed) flags start end paths walk ok
 
-    pub begin-leaves : beginning s flags start end paths walk ≡ left (Begun.Record (begun opened .rec)) (pathArea (begun opened)) (begun opened .area)
+    pub begin-leaves : beginning s flags start end paths walk ≡ leaves (Begun.Record (begun opened .rec)) (pathArea (begun opened)) (begun opened .area)
     begin-leaves =
         ap (λ x. beginningOf x flags start end paths walk) read ∙ ap (λ o. begunAs o (begun opened) paths walk) ok
 
     -- 01, 'Trials', of the operations: after every list of reports, refused ones included, the record and every byte of both areas are those
     -- that the three rules give.
-    pub reports-leave : (ρs : List Report) → reportsOn s (leftBy (begun opened)) ρs ≡ leftBy (stateAfter opened ρs)
+    pub reports-leave : (ρs : List Report) → reportsOn s (leavesOf (begun opened)) ρs ≡ leavesOf (stateAfter opened ρs)
     unfolding reportsOn run
     reports-leave ρs = from (begun opened) ([], invariant-begin opened) ρs
       where
         from : (σ : State) → (done : List Report) × Invariant opened done σ → (τs : List Report)
-            → reportsOn s (leftBy σ) τs ≡ leftBy (run (graph b) (chosen (graph b)) σ τs)
+            → reportsOn s (leavesOf σ) τs ≡ leavesOf (run (graph b) (chosen (graph b)) σ τs)
         from σ c [] = refl
         from σ c (ρ ∷ τs) =
             ap (λ l. reportsOn s l τs) (report-leaves σ (c .1 .valid) ρ)
@@ -85,7 +85,7 @@ module _ (s : List ℕ) (b : Book) (read : reading s ≡ accepted b) where
     -- ... and so after every replay.
     pub replay-leaves : (reports : List ℕ)
         → replaying s flags start end reports paths walk
-        ≡ left (Begun.Record (stateAfter opened (reportsOf reports) .rec)) (pathArea (stateAfter opened (reportsOf reports))) (stateAfter opened (reportsOf reports) .area)
+        ≡ leaves (Begun.Record (stateAfter opened (reportsOf reports) .rec)) (pathArea (stateAfter opened (reportsOf reports))) (stateAfter opened (reportsOf reports) .area)
     replay-leaves reports =
         ap (λ x. replayingOf x flags start end reports paths walk) read
         ∙ ap (λ o. begunAs o (stateAfter opened (reportsOf reports)) paths walk) ok

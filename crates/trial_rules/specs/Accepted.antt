@@ -12,7 +12,7 @@ use Rattle.walks.specs.Graph.{Graph}
 use Rattle.book.specs.Refusal.{Test, test, refusalBy}
 use Rattle.book.specs.RefusalLaws.{Hold, none→hold, hold→none, first-of-append}
 use Rattle.limits.specs.Limits.{areaSize, longest}
-use Rattle.trial_rules.specs.Trials.{Report, State, pathArea, areaTests, beginTests, oracleTests, reportTests, isNamed, hasRoom, refusal, Valid, isValid, Begin}
+use Rattle.trial_rules.specs.Trials.{Report, State, pathArea, areaTests, beginTests, oracleTests, stateTests, isNamed, hasRoom, refusal, Valid, isValid, Begin}
 use Rattle.trial_rules.specs.Tests.{isValid→Valid, Valid→isValid}
 
 -- What an accepted begin has passed.
@@ -42,7 +42,7 @@ module _ (g : Graph) (σ : State) (ρ : Report) where
   pub accepts : refusal g σ ρ ≡ none → Accepts g σ ρ
   unfolding refusal
   accepts e =
-      let h = none→hold (reportTests g σ ρ) e in
+      let h = none→hold (stateTests g σ ρ) e in
       record {
         area-fits = leb-true _ _ (h .1 .0);
         valid = isValid→Valid g σ (true→T _ (h .1 .1 .0));
@@ -59,7 +59,7 @@ module _ (g : Graph) (σ : State) (ρ : Report) where
   unfolding refusal
   not-refused h =
       let (paths-fit, (area-fits, (valid, _))) = in-order (h .area-fits) (h .valid) in
-      hold→none (reportTests g σ ρ) (paths-fit, (area-fits, (valid, (eq-eqb _ _ (h .stage), (T→true _ (h .named), (T→true _ (h .room), tt))))))
+      hold→none (stateTests g σ ρ) (paths-fit, (area-fits, (valid, (eq-eqb _ _ (h .stage), (T→true _ (h .named), (T→true _ (h .room), tt))))))
 
   -- In a valid state with a line-up area that is long enough, only the oracle's tests are left.
   pub only-oracle : longest ≤ length (σ .area) → Valid g σ → refusal g σ ρ ≡ refusalBy (oracleTests g σ ρ)

@@ -4,26 +4,25 @@ use mathlib.Core.Path.{_≡_, refl}
 use mathlib.Core.Bool.{Bool, true, false, not, cond, _&&_}
 use mathlib.Core.List.{List, [], _∷_, List·Memᴰ, List·Memᴰ·head, List·Memᴰ·tail, Memᴰ·cast}
 use mathlib.Core.Logic.{_≢_}
-use lib.Dec.{T, eqb, ltb, T-not, not-T, leb→le, le→leb, ltb→lt, lt→ltb, eqb→eq, eqb-refl}
+use lib.Dec.{T, eqb, T-not, not-T, leb→le, le→leb}
 use lib.ListN.{length}
-use borrow.Author.Tests.{eqb-true, eqb-false}
+use borrow.Author.Tests.{eqb-true, eqb-false, eq-eqb, leb-true, le-leb, ltb-true, lt-ltb}
 use lib.Ieee.Fits.{and-i, and-l, and-r}
 use Rattle.lists.specs.Distinct.{Distinct}
-use Rattle.lists.specs.Test.{T→true, true→T, conj, all, all→each, any}
+use Rattle.lists.specs.Test.{T→true, true→T, and-true, conj, all, all→each, any}
 use Rattle.walks.specs.Graph.{Graph}
 use Rattle.walks.specs.Walk.{weightOf}
 use Rattle.walks.specs.Avoid.{same}
 use Rattle.walks.specs.Best.{Feasible}
 use Rattle.walks.specs.Feasible.{isFeasible, isFeasible→Feasible, Feasible→isFeasible}
 use Rattle.book.specs.Book.{All, IsPath, isPath}
+use Rattle.book.specs.Refusal.{allHold}
+use Rattle.book.specs.RefusalLaws.{hold→all, all→hold}
 use Rattle.book.specs.BookLaws.{isPath→IsPath, IsPath→isPath}
 use Rattle.rules.specs.Binding.{once}
 use Rattle.rules.specs.Sets.{member→Mem, Mem→member}
-use Rattle.limits.specs.Limits.{mostPaths, longest}
-use Rattle.trial_rules.specs.Trials.{State, standing, passedIn, ForbiddenSet, Valid, isForbiddenSet, isValid, isRecord}
-
-eq→eqb : (m n : ℕ) → m ≡ n → T (eqb m n)
-eq→eqb m n e = rw e (eqb-refl n)
+use Rattle.limits.specs.Limits.{mostPaths}
+use Rattle.trial_rules.specs.Trials.{State, standing, noneStands, oneStands, recordTests, ForbiddenSet, Valid, isForbiddenSet, isValid, isRecord}
 
 each→all : {A : Type 0} (p : A → Bool) (l : List A) → ((a : A) → List·Memᴰ a l → T (p a)) → T (all p l)
 each→all p [] h = tt
@@ -67,69 +66,61 @@ module _ (count : ℕ) (F : List (List ℕ)) where
       search (conj, le→leb (length F) mostPaths (h .few), Distinct→once F (h .distinct), each→all (isPath count) F (h .taken))
 
 module _ (g : Graph) (σ : State) where
-  -- the last of isValid's tests
-  lastTest : Bool → Bool
-  lastTest over =
-      cond over
-      (eqb (σ .rec .length) 0 && eqb (σ .rec .litres) 0)
-      (isFeasible g (σ .forbidden) (σ .rec .start) (σ .rec .end) (standing σ) && eqb (σ .rec .litres) (weightOf g (standing σ)))
-
   pub isValid→Valid : T (isValid g σ) → Valid g σ
-  unfolding isValid isRecord lastTest
+  unfolding isValid isRecord
   isValid→Valid t =
-      let (walk, litres, no-walk) = last (eqb (σ .rec .stage) 2) refl (search conj) in
+      let (first, held) = and-true (isForbiddenSet (g .count) (σ .forbidden) && eqb (σ .rec .known) (length (σ .forbidden))) (allHold (recordTests g σ)) (T→true _ t) in
+      let (set, known) = and-true (isForbiddenSet (g .count) (σ .forbidden)) _ first in
+      let h = all→hold (recordTests g σ) held in
+      let (walk, litres, no-walk) = last (eqb (σ .rec .stage) 2) refl (h .1 .1 .1 .1 .1 .1 .0) in
       record {
-        set = isForbiddenSet→ (g .count) (σ .forbidden) (search conj depth 12);
-        known = eqb→eq (σ .rec .known) (length (σ .forbidden)) (search conj depth 12);
-        stage = leb→le (σ .rec .stage) 2 (search conj depth 12);
-        start = ltb→lt (σ .rec .start) (g .count) (search conj depth 12);
-        end = ltb→lt (σ .rec .end) (g .count) (search conj depth 12);
-        sum = eqb→eq (σ .rec .known) (σ .rec .first + σ .rec .failed) (search conj depth 12);
-        passed = eqb→eq (σ .rec .passed) (passedIn (σ .rec .stage)) (search conj depth 12);
-        short = leb→le (σ .rec .length) longest (search conj depth 12);
+        set = isForbiddenSet→ (g .count) (σ .forbidden) (true→T _ set);
+        known = eqb-true _ _ known;
+        stage = leb-true _ _ (h .0);
+        start = ltb-true _ _ (h .1 .0);
+        end = ltb-true _ _ (h .1 .1 .0);
+        sum = eqb-true _ _ (h .1 .1 .1 .0);
+        passed = eqb-true _ _ (h .1 .1 .1 .1 .0);
+        short = leb-true _ _ (h .1 .1 .1 .1 .1 .0);
         walk = walk;
         litres = litres;
         no-walk = no-walk;
       }
     where
-      last : (over : Bool) → eqb (σ .rec .stage) 2 ≡ over → T (lastTest over)
+      last : (over : Bool) → eqb (σ .rec .stage) 2 ≡ over → cond over (noneStands σ) (oneStands g σ) ≡ true
           → (σ .rec .stage ≢ 2 → Feasible g (σ .forbidden) (σ .rec .start) (σ .rec .end) (standing σ))
           × (σ .rec .stage ≢ 2 → σ .rec .litres ≡ weightOf g (standing σ))
           × (σ .rec .stage ≡ 2 → (σ .rec .length ≡ 0) × (σ .rec .litres ≡ 0))
-      last true e h = (
-        λ ne. absurd (ne (eqb-true _ _ e)),
-        λ ne. absurd (ne (eqb-true _ _ e)),
-        λ is. (eqb→eq _ _ (and-l (eqb (σ .rec .length) 0) (eqb (σ .rec .litres) 0) h), eqb→eq _ _ (and-r (eqb (σ .rec .length) 0) (eqb (σ .rec .litres) 0) h)),
-      )
-      last false e h = (
-        λ ne. isFeasible→Feasible g (σ .forbidden) (σ .rec .start) (σ .rec .end) (standing σ) (search conj),
-        λ ne. eqb→eq (σ .rec .litres) (weightOf g (standing σ)) (search conj),
-        λ is. absurd (eqb-false _ _ e is),
-      )
+      last true e h =
+          let (no-length, no-litres) = and-true (eqb (σ .rec .length) 0) (eqb (σ .rec .litres) 0) h in
+          (λ ne. absurd (ne (eqb-true _ _ e)), λ ne. absurd (ne (eqb-true _ _ e)), λ is. (eqb-true _ _ no-length, eqb-true _ _ no-litres))
+      last false e h =
+          let (feasible, weight) = and-true (isFeasible g (σ .forbidden) (σ .rec .start) (σ .rec .end) (standing σ)) (eqb (σ .rec .litres) (weightOf g (standing σ))) h in (
+            λ ne. isFeasible→Feasible g (σ .forbidden) (σ .rec .start) (σ .rec .end) (standing σ) (true→T _ feasible),
+            λ ne. eqb-true _ _ weight,
+            λ is. absurd (eqb-false _ _ e is),
+          )
 
   pub Valid→isValid : Valid g σ → T (isValid g σ)
-  unfolding isValid isRecord lastTest
+  unfolding isValid isRecord
   Valid→isValid v =
-      search (
-        conj,
-        →isForbiddenSet (g .count) (σ .forbidden) (v .set),
-        eq→eqb (σ .rec .known) (length (σ .forbidden)) (v .known),
-        le→leb (σ .rec .stage) 2 (v .stage),
-        lt→ltb (σ .rec .start) (g .count) (v .start),
-        lt→ltb (σ .rec .end) (g .count) (v .end),
-        eq→eqb (σ .rec .known) (σ .rec .first + σ .rec .failed) (v .sum),
-        eq→eqb (σ .rec .passed) (passedIn (σ .rec .stage)) (v .passed),
-        le→leb (σ .rec .length) longest (v .short),
-        last (eqb (σ .rec .stage) 2) refl,
-      ) depth 12
+      let held =
+      hold→all (recordTests g σ) (
+        le-leb _ _ (v .stage),
+        (lt-ltb _ _ (v .start), (lt-ltb _ _ (v .end), (eq-eqb _ _ (v .sum), (eq-eqb _ _ (v .passed), (le-leb _ _ (v .short), (last (eqb (σ .rec .stage) 2) refl, tt)))))),
+      ) in
+      and-i (isForbiddenSet (g .count) (σ .forbidden) && eqb (σ .rec .known) (length (σ .forbidden))) (allHold (recordTests g σ))
+      (and-i (isForbiddenSet (g .count) (σ .forbidden)) (eqb (σ .rec .known) (length (σ .forbidden))) (→isForbiddenSet (g .count) (σ .forbidden) (v .set)) (true→T _ (eq-eqb _ _ (v .known))))
+      (true→T _ held)
     where
-      last : (over : Bool) → eqb (σ .rec .stage) 2 ≡ over → T (lastTest over)
+      last : (over : Bool) → eqb (σ .rec .stage) 2 ≡ over → cond over (noneStands σ) (oneStands g σ) ≡ true
       last true e =
           let z = v .no-walk (eqb-true _ _ e) in
-          search (conj, eq→eqb _ _ (z .0), eq→eqb _ _ (z .1))
+          rw (eq-eqb (σ .rec .length) 0 (z .0), eq-eqb (σ .rec .litres) 0 (z .1)) refl
       last false e =
           let ne : σ .rec .stage ≢ 2 = eqb-false _ _ e in
-          search (conj, Feasible→isFeasible g (σ .forbidden) (σ .rec .start) (σ .rec .end) (standing σ) (v .walk ne), eq→eqb (σ .rec .litres) (weightOf g (standing σ)) (v .litres ne))
+          let feasible = isFeasible g (σ .forbidden) (σ .rec .start) (σ .rec .end) (standing σ) in
+          rw (T→true feasible (Feasible→isFeasible g (σ .forbidden) (σ .rec .start) (σ .rec .end) (standing σ) (v .walk ne)), eq-eqb (σ .rec .litres) (weightOf g (standing σ)) (v .litres ne)) refl
 
 -- A forbidden set as the laws of the runs area ask for it.
 module _ (v : ℕ) (F : List (List ℕ)) (set : ForbiddenSet v F) where

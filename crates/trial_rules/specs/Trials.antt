@@ -15,7 +15,7 @@ use Rattle.walks.specs.Avoid.{occurs}
 use Rattle.walks.specs.Best.{Feasible}
 use Rattle.walks.specs.Feasible.{isFeasible}
 use Rattle.book.specs.declared.Refusal.{Refusal}
-use Rattle.book.specs.Refusal.{Test, test, refusalBy}
+use Rattle.book.specs.Refusal.{Test, test, allHold, refusalBy}
 use Rattle.book.specs.Book.{isPath}
 use Rattle.automaton.specs.Chosen.{Decided}
 use Rattle.rules.specs.Binding.{once}
@@ -84,18 +84,29 @@ pub record Valid (g : Graph) (σ : State) : Type 0 where
 unfoldable pub isForbiddenSet : ℕ → List (List ℕ) → Bool
 isForbiddenSet count F = leb (length F) mostPaths && once F && all (isPath count) F
 
--- The record of a state whose forbidden set is one.
+-- In stage 2 length and litres are 0; in stages 0 and 1 a walk stands, with those litres.
+abbrev pub noneStands : State → Bool
+noneStands σ = eqb (σ .rec .length) 0 && eqb (σ .rec .litres) 0
+
+abbrev pub oneStands : Graph → State → Bool
+oneStands g σ = isFeasible g (σ .forbidden) (σ .rec .start) (σ .rec .end) (standing σ) && eqb (σ .rec .litres) (weightOf g (standing σ))
+
+-- The record of a state whose forbidden set is one: its numbers, and what stands.
+abbrev pub numberTests : Graph → State → List Test
+numberTests g σ =
+    test 9 (leb (σ .rec .stage) 2)
+    ∷ test 9 (ltb (σ .rec .start) (g .count))
+    ∷ test 9 (ltb (σ .rec .end) (g .count))
+    ∷ test 9 (eqb (σ .rec .known) (σ .rec .first + σ .rec .failed))
+    ∷ test 9 (eqb (σ .rec .passed) (passedIn (σ .rec .stage)))
+    ∷ test 9 (leb (σ .rec .length) longest)
+    ∷ []
+
+abbrev pub recordTests : Graph → State → List Test
+recordTests g σ = numberTests g σ ++ (test 9 (cond (eqb (σ .rec .stage) 2) (noneStands σ) (oneStands g σ)) ∷ [])
+
 unfoldable pub isRecord : Graph → State → Bool
-isRecord g σ =
-    leb (σ .rec .stage) 2
-    && ltb (σ .rec .start) (g .count)
-    && ltb (σ .rec .end) (g .count)
-    && eqb (σ .rec .known) (σ .rec .first + σ .rec .failed)
-    && eqb (σ .rec .passed) (passedIn (σ .rec .stage))
-    && leb (σ .rec .length) longest
-    && cond (eqb (σ .rec .stage) 2)
-    (eqb (σ .rec .length) 0 && eqb (σ .rec .litres) 0)
-    (isFeasible g (σ .forbidden) (σ .rec .start) (σ .rec .end) (standing σ) && eqb (σ .rec .litres) (weightOf g (standing σ)))
+isRecord g σ = allHold (recordTests g σ)
 
 unfoldable pub isValid : Graph → State → Bool
 isValid g σ = isForbiddenSet (g .count) (σ .forbidden) && eqb (σ .rec .known) (length (σ .forbidden)) && isRecord g σ
@@ -127,11 +138,11 @@ abbrev pub oracleTests : Graph → State → Report → List Test
 oracleTests g σ ρ = test 11 (eqb (σ .rec .stage) 0) ∷ test 12 (isNamed g σ ρ) ∷ test 13 (hasRoom σ ρ) ∷ []
 
 -- A report: 8, 9, 11, 12, 13.
-abbrev pub reportTests : Graph → State → Report → List Test
-reportTests g σ ρ = areaTests (pathArea σ) (σ .area) ++ (test 9 (isValid g σ) ∷ oracleTests g σ ρ)
+abbrev pub stateTests : Graph → State → Report → List Test
+stateTests g σ ρ = areaTests (pathArea σ) (σ .area) ++ (test 9 (isValid g σ) ∷ oracleTests g σ ρ)
 
 unfoldable pub refusal : Graph → State → Report → Option Refusal
-refusal g σ ρ = refusalBy (reportTests g σ ρ)
+refusal g σ ρ = refusalBy (stateTests g σ ρ)
 
 -- ---- the three rules
 -- A plan for each forbidden set, start and end; a planner of g answers rightly wherever planning is not refused.

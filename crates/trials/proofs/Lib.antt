@@ -3,4 +3,5 @@ pub mod Occurring
 pub mod Weighing
 pub mod Standing
 pub mod Recorded
+pub mod Judged
 pub mod Reporting

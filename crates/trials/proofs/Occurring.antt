@@ -5,14 +5,12 @@ use mathlib.Core.List.{List, [], _∷_}
 use mathlib.Core.Path.{_≡_, refl, sym, ap, ap₂, _∙_}
 use native.Mathlib.Numerals.{add-one}
 use native.Mathlib.Omega.{arith}
-use borrow.Author.Tests.{eq-eqb, ne-eqb, le-leb, lt-leb}
-use lib.Dec.{eqb, leb}
+use borrow.Author.Tests.{eq-eqb, ne-eqb}
+use lib.Dec.{eqb}
 use lib.ListN.{length, getD, drop, drop-of-length-le}
-use lib.Seq.{drop-cons, slice, take-length}
+use lib.Seq.{drop-cons}
+use Rattle.lists.specs.Test.{T→true, true→T}
 use Rattle.walks.specs.Avoid.{isPrefix, occurs, occurs-front}
-use Rattle.book.specs.Book.{simple}
-use Rattle.trial_rules.specs.Trials.{takes}
-use Rattle.trial_rules.specs.Tests.{T→true, true→T}
 
 and-no : (x : Bool) → x && false ≡ false
 and-no true = refl
@@ -55,35 +53,3 @@ module _ (path walk : List ℕ) (at : ℕ) where
 
   pub occurs-last : length walk ≤ at → occurs path (drop at walk) ≡ isPrefix path (drop at walk)
   occurs-last h = ap (occurs path) (drop-of-length-le walk h) ∙ sym (ap (isPrefix path) (drop-of-length-le walk h))
-
--- ---- a named path, by what its tests say
-four : Bool → Bool → Bool → Bool → Bool
-four two eight once stands = two && eight && once && stands
-
-module _ (count : ℕ) (r w : List ℕ) where
-  by-four : (x y z u : Bool) → leb 2 (length r) ≡ x → leb (length r) 8 ≡ y → simple count r ≡ z → occurs r w ≡ u → four x y z u ≡ takes count r && occurs r w
-  unfolding four takes
-  by-four x y z u p q h k =
-      sym
-      (ap (λ b. four b (leb (length r) 8) (simple count r) (occurs r w)) p
-      ∙ ap (λ b. four x b (simple count r) (occurs r w)) q
-      ∙ ap (λ b. four x y b (occurs r w)) h
-      ∙ ap (four x y z) k)
-
-  pub named-short : length r < 2 → false ≡ takes count r && occurs r w
-  unfolding four
-  named-short h = by-four false _ _ _ (lt-leb _ _ h) refl refl refl
-
-  module _ (two : 2 ≤ length r) where
-    pub named-long : 8 < length r → false ≡ takes count r && occurs r w
-    unfolding four
-    named-long h = by-four true false _ _ (le-leb _ _ two) (lt-leb _ _ h) refl refl
-
-    module _ (eight : length r ≤ 8) where
-      pub not-simple : simple count (slice 0 (length r) r) ≡ false → false ≡ takes count r && occurs r w
-      unfolding four
-      not-simple h = by-four true true false _ (le-leb _ _ two) (le-leb _ _ eight) (sym (ap (simple count) (take-length r)) ∙ h) refl
-
-      pub is-simple : simple count (slice 0 (length r) r) ≡ true → occurs r w ≡ takes count r && occurs r w
-      unfolding four
-      is-simple h = by-four true true true _ (le-leb _ _ two) (le-leb _ _ eight) (sym (ap (simple count) (take-length r)) ∙ h) refl

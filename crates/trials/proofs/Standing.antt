@@ -7,6 +7,7 @@ use native.Mathlib.Omega.{arith}
 use borrow.Author.Tests.{le-leb, eq-eqb, ne-eqb, eqb-true}
 use lib.Dec.{eqb}
 use lib.ListN.{length, getD}
+use Rattle.lists.specs.Test.{T→true, true→T}
 use Rattle.walks.specs.Graph.{Graph}
 use Rattle.walks.specs.Walk.{isWalk, weightOf, hops}
 use Rattle.walks.specs.Avoid.{avoids, avoids→Avoids, Avoids→avoids}
@@ -18,8 +19,8 @@ use Rattle.limits.specs.Limits.{areaSize, longest}
 use Rattle.rules.specs.Checking.{checkable, occurrence}
 use Rattle.rules.specs.CheckLaws.{clear→Avoids, Avoids→clear}
 use Rattle.rules.specs.Sets.{iff, refuted}
+use Rattle.rules.specs.Laws.{sizes}
 use Rattle.rules.specs.ValidLaws.{valid→Valid}
-use Rattle.trial_rules.specs.Tests.{T→true, true→T}
 
 pub only-walk : (g : Graph) (w : List ℕ) → length w ≤ longest → checkable g w ≡ isWalk g w
 only-walk g w few = ap (λ x. x && isWalk g w) (le-leb _ _ few)
@@ -30,15 +31,11 @@ last-place [] = refl
 last-place (v ∷ w) = omega arith
 
 -- ---- clear of the forbidden paths of a valid area
-sizes : (v : ℕ) {F : List (List ℕ)} → All (IsPath v) F → (r : List ℕ) → List·Memᴰ r F → (2 ≤ length r) × (length r ≤ 8)
-sizes v h r (List·Memᴰ·head e) = (rw e (h .0 .two), rw e (h .0 .eight))
-sizes v h r (List·Memᴰ·tail m) = sizes v (h .1) r m
-
 module _ (vertices : ℕ) (paths : List ℕ) (known : ℕ) (w : List ℕ) where
-  pub is-clear : areaSize ≤ length paths → valid vertices paths known ≡ true → occurrence (spelled known paths) w ≡ Clear → avoids (spelled known paths) w ≡ true
-  is-clear long h e =
-      let held = valid→Valid vertices paths known long h in
-      T→true (avoids (spelled known paths) w) (Avoids→avoids (spelled known paths) w (clear→Avoids (spelled known paths) w (sizes vertices (held .paths)) e))
+  pub is-clear : valid vertices paths known ≡ true → occurrence (spelled known paths) w ≡ Clear → avoids (spelled known paths) w ≡ true
+  is-clear h e =
+      let held = valid→Valid vertices paths known h in
+      T→true (avoids (spelled known paths) w) (Avoids→avoids (spelled known paths) w (clear→Avoids (spelled known paths) w (sizes vertices (spelled known paths) (held .paths)) e))
 
   pub not-clear : (occurrence (spelled known paths) w ≡ Clear → ⊥) → avoids (spelled known paths) w ≡ false
   not-clear ne =

@@ -16,7 +16,7 @@ use Rattle.walks.specs.Walk.{isWalk, isWalkFrom, weightOf, weightFrom}
 use Rattle.book.specs.Book.{Book, graph}
 use Rattle.limits.specs.Limits.{noArc}
 use Rattle.search.specs.Weights.{Weights, book-weights}
-use Rattle.trials.specs.Judging.{IsOf}
+use Rattle.book.specs.Tables.{IsGraph}
 
 -- What has been weighed of a walk at u, its vertex before place i: the sum and the weight of what is left are the walk's.
 pub record Weighed (g : Graph) (w : List ℕ) (sum u i : ℕ) : Type 0 where
@@ -26,7 +26,7 @@ pub record Weighed (g : Graph) (w : List ℕ) (sum u i : ℕ) : Type 0 where
   pub light : sum ≤ i * 1000000
 
 -- the table of the book that has been read
-pub of-weights : {b : Book} {vertices : ℕ} {weights : List ℕ} → IsOf b vertices weights → Weights (graph b) weights
+pub of-weights : {b : Book} {vertices : ℕ} {weights : List ℕ} → IsGraph b vertices weights → Weights (graph b) weights
 of-weights {b} {vertices} {weights} is = subst (Weights (graph b)) (sym (is .weights-are)) (book-weights b (is .well))
 
 pub nonempty : (g : Graph) (w : List ℕ) → isWalk g w ≡ true → 0 < length w

@@ -1,64 +1,32 @@
 -- Laws of a report: what an accepted one has passed, and that a report in trials is a step of theirs.
 use Prim.Native.Nat.{ℕ, _≤_}
-use mathlib.Core.Bool.{Bool, true, false, _&&_}
-use mathlib.Core.List.{List, [], _∷_, _++_, List·Memᴰ, List·Memᴰ·head, List·Memᴰ·tail}
-use mathlib.Core.Option.{Option, none, some, Option·none-ne-some}
+use mathlib.Core.Bool.{true, _&&_}
+use mathlib.Core.List.{List, [], _∷_, _++_}
+use mathlib.Core.Option.{none}
 use mathlib.Core.Path.{_≡_, refl, sym, ap, ap₂, _∙_}
 use native.Mathlib.Omega.{arith}
 use borrow.Author.Tests.{leb-true, eq-eqb, eqb-true}
-use lib.Dec.{T, eqb, leb}
+use lib.Dec.{T, eqb}
 use lib.ListN.{length, drop, take-append-drop, length-map}
 use lib.Seq.{drop-at}
-use Rattle.lists.specs.Test.{and-true}
+use Rattle.lists.specs.Test.{T→true, true→T, and-true}
 use Rattle.walks.specs.Graph.{Graph}
-use Rattle.book.specs.declared.Refusal.{Refusal}
-use Rattle.book.specs.Refusal.{refusalOf}
-use Rattle.book.specs.Book.{Book, All, IsPath, graph}
+use Rattle.book.specs.Refusal.{test, refusalBy}
+use Rattle.book.specs.RefusalLaws.{none→hold}
+use Rattle.book.specs.Book.{Book, graph}
 use Rattle.book.specs.Reading.{accepted}
-use Rattle.rules.specs.Binding.{once}
 use Rattle.rules.specs.Area.{written, blocks, spelled, valid}
 use Rattle.limits.specs.Limits.{areaSize, longest}
 use Rattle.rules.specs.AreaLaws.{length-blocks}
 use Rattle.rules.specs.ValidLaws.{valid→Valid, written-length, written-valid, written-spells}
 use Rattle.automaton.specs.Chosen.{chosen}
 use Rattle.trial_record.specs.declared.Record.{Record}
-use Rattle.trial_rules.specs.Trials.{Report, State, pathArea, areasFit, isNamed, hasRoom, ForbiddenSet, isForbiddenSet, isRecord, isValid, Valid, refusal, step}
-use Rattle.trials.specs.Operations.{stateOf, reportRefusal, reportedAs, reportingOf}
-use Rattle.trial_rules.specs.Tests.{T→true, true→T, takes→IsPath, forbidden-set, once→Distinct, Distinct→once, →isForbiddenSet, Valid→isValid, isValid→Valid}
-use Rattle.trial_rules.specs.Accepted.{Accepts, accepts}
-
--- ---- the refusal, by what its tests say
-abbrev pub asked : Bool → Bool → Bool → Bool → Bool → Option Refusal
-asked areas valid standing named room =
-    refusalOf (record { book = none; areas = areas; endpoints = true; valid = valid; walk = true; standing = standing; named = named; room = room })
-
--- What is refused before 12 and 13 is refused whatever they say.
-pub refused-before : (a v s : Bool) (x : Refusal) → asked a v s true true ≡ some x → (n m : Bool) → asked a v s n m ≡ some x
-refused-before true true true x e n m = absurd (Option·none-ne-some x e)
-refused-before true true false x e n m = e
-refused-before true false s x e n m = e
-refused-before false v s x e n m = e
-
-pub all-asked : (a v s n m : Bool) → asked a v s n m ≡ none → (a ≡ true) × (v ≡ true) × (s ≡ true) × (n ≡ true) × (m ≡ true)
-all-asked true true true true true e = (refl, refl, refl, refl, refl)
-all-asked true true true true false e = absurd (Option·none-ne-some _ (sym e))
-all-asked true true true false m e = absurd (Option·none-ne-some _ (sym e))
-all-asked true true false n m e = absurd (Option·none-ne-some _ (sym e))
-all-asked true false s n m e = absurd (Option·none-ne-some _ (sym e))
-all-asked false v s n m e = absurd (Option·none-ne-some _ (sym e))
+use Rattle.trial_rules.specs.Trials.{Report, State, pathArea, areaTests, isNamed, hasRoom, ForbiddenSet, isForbiddenSet, isRecord, isValid, Valid, refusal, step}
+use Rattle.trials.specs.Operations.{stateOf, reportTests, reportedAs, reportingOf}
+use Rattle.trial_rules.specs.Tests.{forbidden-set, once→Distinct, set-paths, set-once, →isForbiddenSet, Valid→isValid, isValid→Valid}
+use Rattle.trial_rules.specs.Accepted.{Accepts}
 
 -- ---- the runs area
-module _ (v : ℕ) (F : List (List ℕ)) (set : ForbiddenSet v F) where
-  pub set-paths : All (IsPath v) F
-  set-paths = each F (λ r m. takes→IsPath v r (set .taken r m))
-    where
-      each : (G : List (List ℕ)) → ((r : List ℕ) → List·Memᴰ r G → IsPath v r) → All (IsPath v) G
-      each [] h = tt
-      each (r ∷ G) h = (h r (List·Memᴰ·head refl), each G (λ q m. h q (List·Memᴰ·tail m)))
-
-  pub set-once : once F ≡ true
-  set-once = T→true (once F) (Distinct→once F (set .distinct))
-
 -- The area of a state in order.
 module _ (b : Book) (σ : State) (set : ForbiddenSet (b .count) (σ .forbidden)) (known : σ .rec .known ≡ length (σ .forbidden)) where
   pub area-valid : valid (b .count) (pathArea σ) (σ .rec .known) ≡ true
@@ -75,18 +43,16 @@ module _ (b : Book) (σ : State) (set : ForbiddenSet (b .count) (σ .forbidden))
       (drop-at (written (σ .forbidden)) (σ .beyond) areaSize (written-length (b .count) (σ .forbidden) (set .few) paths different (σ .beyond)))
 
 -- ---- 9
-three : (x y z : Bool) → x ≡ true → y ≡ true → z ≡ true → x && y && z ≡ true
-three x y z p q r = rw (p, q, r) refl
-
 module _ (g : Graph) (σ : State) where
   valid-parts : ForbiddenSet (g .count) (σ .forbidden) → σ .rec .known ≡ length (σ .forbidden) → isRecord g σ ≡ true → T (isValid g σ)
   unfolding isValid
   valid-parts set known held =
-      true→T _
-      (three (isForbiddenSet (g .count) (σ .forbidden)) (eqb (σ .rec .known) (length (σ .forbidden))) (isRecord g σ)
-      (T→true _ (→isForbiddenSet (g .count) (σ .forbidden) set)) (eq-eqb _ _ known) held)
+      let is-set = T→true (isForbiddenSet (g .count) (σ .forbidden)) (→isForbiddenSet (g .count) (σ .forbidden) set) in
+      let counted = eq-eqb (σ .rec .known) (length (σ .forbidden)) known in
+      let every : isForbiddenSet (g .count) (σ .forbidden) && eqb (σ .rec .known) (length (σ .forbidden)) && isRecord g σ ≡ true = rw (is-set, counted, held) refl in
+      true→T _ every
 
-  record-part : Valid g σ → isRecord g σ ≡ true
+  pub record-part : Valid g σ → isRecord g σ ≡ true
   unfolding isValid
   record-part v =
       and-true (isForbiddenSet (g .count) (σ .forbidden) && eqb (σ .rec .known) (length (σ .forbidden))) (isRecord g σ) (T→true _ (Valid→isValid g σ v)) .1
@@ -99,28 +65,25 @@ pub record Passed (b : Book) (r : Record) (paths walk : List ℕ) (ρ : Report) 
   pub area-is : pathArea (stateOf r paths walk) ≡ paths
 
 module _ (b : Book) (r : Record) (paths walk : List ℕ) where
-  pub passed-tests : (ρ : Report) → reportRefusal b r paths walk ρ ≡ none → Passed b r paths walk ρ
+  pub passed-tests : (ρ : Report) → refusalBy (reportTests r paths walk ρ b) ≡ none → Passed b r paths walk ρ
   passed-tests ρ e =
       let g = graph b in
       let σ = stateOf r paths walk in
-      let t = all-asked (areasFit paths walk) (valid (b .count) paths (r .known) && isRecord g σ) (eqb (r .stage) 0) (isNamed g σ ρ) (hasRoom σ ρ) e in
-      let fits = and-true (leb areaSize (length paths)) (leb longest (length walk)) (t .0) in
-      let held = and-true (valid (b .count) paths (r .known)) (isRecord g σ) (t .1) in
-      let paths-fit : areaSize ≤ length paths = leb-true areaSize (length paths) (fits .0) in
-      let v = valid→Valid (b .count) paths (r .known) paths-fit (held .0) in
+      let h = none→hold (reportTests r paths walk ρ b) e in
+      let v = valid→Valid (b .count) paths (r .known) (h .1 .1 .0) in
       let area-is : pathArea σ ≡ paths = ap (λ l. l ++ drop areaSize paths) (sym (v .bytes)) ∙ take-append-drop areaSize paths in
       let size : length (σ .forbidden) ≡ r .known = length-map (blocks (r .known) paths) _ ∙ length-blocks (r .known) paths in
       let set : ForbiddenSet (b .count) (σ .forbidden) =
       forbidden-set (b .count) (σ .forbidden) (omega (arith, v .few)) (once→Distinct (σ .forbidden) (true→T _ (v .different))) (v .paths) in
       record {
-        paths-fit = paths-fit;
+        paths-fit = leb-true _ _ (h .0);
         accepts =
             record {
-              area-fits = leb-true longest (length walk) (fits .1);
-              valid = isValid→Valid g σ (valid-parts g σ set (sym size) (held .1));
-              stage = eqb-true (r .stage) 0 (t .2);
-              named = true→T _ (t .3);
-              room = true→T _ (t .4);
+              area-fits = leb-true _ _ (h .1 .0);
+              valid = isValid→Valid g σ (valid-parts g σ set (sym size) (h .1 .1 .1 .0));
+              stage = eqb-true (r .stage) 0 (h .1 .1 .1 .1 .0);
+              named = true→T _ (h .1 .1 .1 .1 .1 .0);
+              room = true→T _ (h .1 .1 .1 .1 .1 .1 .0);
             };
         area-is = area-is;
       }
@@ -131,16 +94,12 @@ module _ (b : Book) (σ : State) (v : Valid (graph b) σ) (ρ : Report) where
   same-state = state-is b σ (v .set) (v .known)
 
   -- A report on what the trials left is refused as the rules say ...
-  pub same-refusal : reportRefusal b (σ .rec) (pathArea σ) (σ .area) ρ ≡ refusal (graph b) σ ρ
+  pub same-refusal : refusalBy (reportTests (σ .rec) (pathArea σ) (σ .area) ρ b) ≡ refusal (graph b) σ ρ
   unfolding refusal
   same-refusal =
       let g = graph b in
-      let areas : Bool = areasFit (pathArea σ) (σ .area) in
-      let standing : Bool = eqb (σ .rec .stage) 0 in
-      let in-order : valid (b .count) (pathArea σ) (σ .rec .known) && isRecord g σ ≡ isValid g σ =
-      ap₂ (λ x y. x && y) (area-valid b σ (v .set) (v .known)) (record-part g σ v) ∙ sym (T→true _ (Valid→isValid g σ v)) in
-      ap (λ (τ : State). asked areas (valid (b .count) (pathArea σ) (σ .rec .known) && isRecord g τ) standing (isNamed g τ ρ) (hasRoom τ ρ)) same-state
-      ∙ ap (λ x. asked areas x standing (isNamed g σ ρ) (hasRoom σ ρ)) in-order
+      ap (λ (τ : State). refusalBy (areaTests (pathArea σ) (σ .area) ++ (test 9 (valid (b .count) (pathArea σ) (σ .rec .known)) ∷ test 9 (isRecord g τ) ∷ test 11 (eqb (σ .rec .stage) 0) ∷ test 12 (isNamed g τ ρ) ∷ test 13 (hasRoom τ ρ) ∷ []))) same-state
+      ∙ rw (area-valid b σ (v .set) (v .known), record-part g σ v, T→true (isValid g σ) (Valid→isValid g σ v)) refl
 
   -- ... and leaves what the step leaves.
   pub same-step : reportingOf (accepted b) (σ .rec) (pathArea σ) (σ .area) ρ

@@ -8,15 +8,18 @@ ghost use Rattle.walks.specs.Walk.{isWalk, weightOf};
 ghost use Rattle.walks.specs.Avoid.{isPrefix};
 ghost use Rattle.walks.specs.Feasible.{isFeasible};
 ghost use Rattle.walks.specs.Avoid.{occurs as Avoid·occurs};
-ghost use Rattle.book.specs.Book.{Book, graph};
+ghost use Rattle.book.specs.Book.{Book, graph, isPath};
+ghost use Rattle.book.specs.Refusal.{refusalBy};
+ghost use Rattle.book.specs.Tables.{IsGraph};
 ghost use Rattle.rules.specs.Area.{spelled, valid};
 ghost use Rattle.limits.specs.Limits.{areaSize, longest};
-ghost use Rattle.trial_rules.specs.Trials.{takes, passedIn, isRecord};
-ghost use Rattle.trials.specs.Operations.{stateOf, barred};
-ghost use Rattle.trials.specs.Judging.{IsOf, judgedAs};
+ghost use Rattle.trial_rules.specs.Trials.{passedIn, isRecord};
+ghost use Rattle.trials.specs.Operations.{stateOf, judgeTests};
+ghost use Rattle.trials.specs.Judging.{judgedAs};
 use book::Refusal;
 use limits::AREA;
 use limits::LONGEST;
+use limits::MOST_VERTICES;
 use limits::PAIRS;
 use rules::Checked;
 use trial_record::Record;
@@ -28,16 +31,16 @@ pub enum Judged {
 
 // The weight of a walk.
 fn weigh(weights: &[u32; PAIRS], vertices: usize, walk: &[u8]) -> u64
-    requires { ⌜ ((b : Book) × IsOf b vertices (now weights) × (isWalk (graph b) (now walk) ≡ true)) ⌝ }
+    requires { ⌜ ((b : Book) × IsGraph b vertices (now weights) × (isWalk (graph b) (now walk) ≡ true)) ⌝ }
     requires { ⌜ length (now walk) ≤ longest ⌝ }
-    ensures { λ r. ⌜ ((b : Book) → IsOf b vertices (now (weights .entry)) → isWalk (graph b) (now (walk .entry)) ≡ true → r ≡ weightOf (graph b) (now (walk .entry))) ⌝ }
+    ensures { λ r. ⌜ ((b : Book) → IsGraph b vertices (now (weights .entry)) → isWalk (graph b) (now (walk .entry)) ≡ true → r ≡ weightOf (graph b) (now (walk .entry))) ⌝ }
 {
     let mut sum: u64 = 0;
     let mut u = walk[0] as usize;
     let mut i = 1;
     while i < walk.len() {
         let v = walk[i] as usize;
-        sum += weights[u * 64 + v] as u64;
+        sum += weights[u * MOST_VERTICES + v] as u64;
         u = v;
         i += 1;
     }
@@ -46,10 +49,10 @@ fn weigh(weights: &[u32; PAIRS], vertices: usize, walk: &[u8]) -> u64
 
 // Whether a walk from the record's start to its end, clear of the forbidden paths, stands, and weighs what the record says.
 fn stands(weights: &[u32; PAIRS], vertices: usize, rec: Record, paths: &[u8], walk: &[u8]) -> bool
-    requires { ⌜ ((b : Book) × IsOf b vertices (now weights)) ⌝ }
+    requires { ⌜ ((b : Book) × IsGraph b vertices (now weights)) ⌝ }
     requires { ⌜ length (now walk) ≤ longest ⌝ }
     requires { ⌜ (areaSize ≤ length (now paths)) × (valid vertices (now paths) (rec .known) ≡ true) ⌝ }
-    ensures { λ r. ⌜ ((b : Book) → IsOf b vertices (now (weights .entry)) → r ≡ isFeasible (graph b) (spelled (rec .known) (now (paths .entry))) (rec .start) (rec .end) (now (walk .entry)) && eqb (rec .litres) (weightOf (graph b) (now (walk .entry)))) ⌝ }
+    ensures { λ r. ⌜ ((b : Book) → IsGraph b vertices (now (weights .entry)) → r ≡ isFeasible (graph b) (spelled (rec .known) (now (paths .entry))) (rec .start) (rec .end) (now (walk .entry)) && eqb (rec .litres) (weightOf (graph b) (now (walk .entry)))) ⌝ }
 {
     if !rules::is_walk(weights, vertices, walk) {
         return false;
@@ -60,14 +63,14 @@ fn stands(weights: &[u32; PAIRS], vertices: usize, rec: Record, paths: &[u8], wa
     if walk[walk.len() - 1] != rec.end {
         return false;
     }
-    let Checked::Clear = rules::search(paths, rec.known, walk) else {
+    let Checked::Clear = rules::first_occurrence(paths, rec.known, walk) else {
         return false;
     };
     weigh(weights, vertices, walk) == rec.litres
 }
 
 // How many passed reports a record counts in a stage.
-fn passed_in(stage: usize) -> usize
+fn passes_in(stage: usize) -> usize
     ensures { λ r. ⌜ r ≡ passedIn stage ⌝ }
 {
     if stage == 1 { 1 } else { 0 }
@@ -81,10 +84,10 @@ fn is_record(
     paths: &[u8],
     walk: &[u8],
 ) -> bool
-    requires { ⌜ ((b : Book) × IsOf b vertices (now weights)) ⌝ }
+    requires { ⌜ ((b : Book) × IsGraph b vertices (now weights)) ⌝ }
     requires { ⌜ longest ≤ length (now walk) ⌝ }
     requires { ⌜ (areaSize ≤ length (now paths)) × (valid vertices (now paths) (rec .known) ≡ true) ⌝ }
-    ensures { λ r. ⌜ ((b : Book) → IsOf b vertices (now (weights .entry)) → r ≡ isRecord (graph b) (stateOf rec (now (paths .entry)) (now (walk .entry)))) ⌝ }
+    ensures { λ r. ⌜ ((b : Book) → IsGraph b vertices (now (weights .entry)) → r ≡ isRecord (graph b) (stateOf rec (now (paths .entry)) (now (walk .entry)))) ⌝ }
 {
     if 2 < rec.stage {
         return false;
@@ -101,7 +104,7 @@ fn is_record(
     if rec.known - rec.first != rec.failed {
         return false;
     }
-    if rec.passed != passed_in(rec.stage) {
+    if rec.passed != passes_in(rec.stage) {
         return false;
     }
     let length = rec.length;
@@ -122,8 +125,8 @@ pub fn judge(
     paths: &[u8],
     walk: &[u8],
 ) -> Judged
-    requires { ⌜ ((b : Book) × IsOf b vertices (now weights)) ⌝ }
-    ensures { λ r. ⌜ ((b : Book) → IsOf b vertices (now (weights .entry)) → r ≡ judgedAs (barred b rec (now (paths .entry)) (now (walk .entry)) true true)) ⌝ }
+    requires { ⌜ ((b : Book) × IsGraph b vertices (now weights)) ⌝ }
+    ensures { λ r. ⌜ ((b : Book) → IsGraph b vertices (now (weights .entry)) → r ≡ judgedAs (refusalBy (judgeTests rec (now (paths .entry)) (now (walk .entry)) b))) ⌝ }
 {
     if paths.len() < AREA {
         return Judged::Refused(Refusal::Area);
@@ -178,16 +181,9 @@ fn occurs(path: &[u8], walk: &[u8]) -> bool
 
 // 12: whether a named path is one by the book's rules, and stands in the walk.
 pub fn is_named(named: &[u8], vertices: usize, walk: &[u8]) -> bool
-    ensures { λ r. ⌜ r ≡ takes vertices (now (named .entry)) && Avoid·occurs (now (named .entry)) (now (walk .entry)) ⌝ }
+    ensures { λ r. ⌜ r ≡ isPath vertices (now (named .entry)) && Avoid·occurs (now (named .entry)) (now (walk .entry)) ⌝ }
 {
-    let n = named.len();
-    if n < 2 {
-        return false;
-    }
-    if 8 < n {
-        return false;
-    }
-    if !book::simple(named, 0, n, vertices) {
+    if !book::is_path(named, 0, named.len(), vertices) {
         return false;
     }
     occurs(named, walk)

@@ -1,13 +1,18 @@
 // Begin: bind, plan.
 ghost use mathlib.Core.Path.{_≡_};
-ghost use lib.ListN.{length};
-ghost use Rattle.limits.specs.Limits.{areaSize};
-ghost use Rattle.trials.specs.Operations.{left, beginning};
+ghost use Rattle.book.specs.Book.{Book};
+ghost use Rattle.book.specs.Reading.{accepted};
+ghost use Rattle.book.specs.Tables.{IsGraph, IsSets};
+ghost use Rattle.trials.specs.Operations.{leaves, beginningOf, beginning};
 use crate::Begun;
+use book::Answer;
 use book::Refusal;
 use limits::AREA;
-use planner::Outcome;
-use rules::Bound;
+use limits::LONGEST;
+use limits::MOST_PATHS;
+use limits::MOST_SETS;
+use limits::NO_ARC;
+use limits::PAIRS;
 use trial_record::Record;
 
 // Binds the rule sets that apply to a batch with these flags, and plans from start to end: the forbidden paths that are known then
@@ -20,37 +25,63 @@ pub fn begin(
     paths: &mut [u8],
     walk: &mut [u8],
 ) -> Begun
-    ensures { λ r. ⌜ left r (now (paths .exit)) (now (walk .exit)) ≡ beginning (now (bytes .entry)) flags start end (now (paths .entry)) (now (walk .entry)) ⌝ }
+    ensures { λ r. ⌜ leaves r (now (paths .exit)) (now (walk .exit)) ≡ beginning (now (bytes .entry)) flags start end (now (paths .entry)) (now (walk .entry)) ⌝ }
 {
-    let mut known = [0u8; AREA];
-    begin_by(bytes, flags, start, end, &mut known, paths, walk)
+    let mut weights = [NO_ARC; PAIRS];
+    let mut needed = [0u16; MOST_SETS];
+    let mut owners = [0u8; MOST_PATHS];
+    let mut entries = [0u8; AREA];
+    let read = book::load(bytes, &mut weights, &mut needed, &mut owners, &mut entries);
+    match read {
+        Answer::Refused(r) => Begun::Refused(r),
+        Answer::Read(counts) => begin_in(
+            &weights,
+            counts.vertices,
+            &needed,
+            &owners,
+            &entries,
+            counts.paths,
+            flags,
+            start,
+            end,
+            paths,
+            walk,
+        ),
+    }
 }
 
-// The same by way of another area, so that a refusal writes nothing.
-fn begin_by(
-    bytes: &[u8],
+// The same in a book that has been read. All is tested before anything is written.
+fn begin_in(
+    weights: &[u32; PAIRS],
+    vertices: usize,
+    needed: &[u16; MOST_SETS],
+    owners: &[u8; MOST_PATHS],
+    entries: &[u8],
+    listed: usize,
     flags: u16,
     start: u8,
     end: u8,
-    known: &mut [u8],
     paths: &mut [u8],
     walk: &mut [u8],
 ) -> Begun
-    requires { ⌜ length (now known) ≡ areaSize ⌝ }
-    ensures { λ r. ⌜ left r (now (paths .exit)) (now (walk .exit)) ≡ beginning (now (bytes .entry)) flags start end (now (paths .entry)) (now (walk .entry)) ⌝ }
+    requires { ⌜ ((b : Book) × IsGraph b vertices (now weights) × IsSets b listed (now needed) (now owners) (now entries)) ⌝ }
+    ensures { λ r. ⌜ ((b : Book) → IsGraph b vertices (now (weights .entry)) → IsSets b listed (now (needed .entry)) (now (owners .entry)) (now (entries .entry)) → leaves r (now (paths .exit)) (now (walk .exit)) ≡ beginningOf (accepted b) flags start end (now (paths .entry)) (now (walk .entry))) ⌝ }
 {
-    match rules::bind(bytes, flags, known) {
-        Bound::Refused(r) => Begun::Refused(r),
-        Bound::Known(count) => {
-            if paths.len() < AREA {
-                return Begun::Refused(Refusal::Area);
-            }
-            let outcome = planner::plan(bytes, known, count, start, end, walk);
-            if let Outcome::Refused(r) = outcome {
-                return Begun::Refused(r);
-            }
-            rules::copy(known, 0, paths, 0, AREA);
-            Begun::Record(Record::new(start, end, count).replanned(outcome))
-        }
+    if paths.len() < AREA {
+        return Begun::Refused(Refusal::Area);
     }
+    if walk.len() < LONGEST {
+        return Begun::Refused(Refusal::Area);
+    }
+    if vertices <= start as usize {
+        return Begun::Refused(Refusal::Endpoint);
+    }
+    if vertices <= end as usize {
+        return Begun::Refused(Refusal::Endpoint);
+    }
+    let mut known = [0u8; AREA];
+    let count = rules::gather(needed, owners, entries, listed, flags, &mut known);
+    let found = planner::find(weights, vertices, &known, count, start, end, walk);
+    rules::copy(&known, 0, paths, 0, AREA);
+    Begun::Record(Record::new(start, end, count).replanned(found))
 }

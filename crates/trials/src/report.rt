@@ -6,10 +6,12 @@ ghost use lib.ListN.{length, set};
 ghost use lib.Seq.{paste};
 ghost use Rattle.book.specs.Book.{Book, graph};
 ghost use Rattle.book.specs.Reading.{accepted};
+ghost use Rattle.book.specs.Refusal.{refusalBy};
+ghost use Rattle.book.specs.Tables.{IsGraph};
+ghost use Rattle.limits.specs.Limits.{entrySize};
 ghost use Rattle.trials.specs.declared.Reported.the-variants.{Accepted};
 ghost use Rattle.trial_rules.specs.Trials.{passed, failed};
-ghost use Rattle.trials.specs.Operations.{left, reportRefusal, reportingOf, reporting};
-ghost use Rattle.trials.specs.Judging.{IsOf};
+ghost use Rattle.trials.specs.Operations.{leaves, reportTests, reportingOf, reporting};
 use crate::Reported;
 use crate::judge::Judged;
 use crate::judge::is_named;
@@ -17,18 +19,16 @@ use crate::judge::judge;
 use book::Answer;
 use book::Refusal;
 use limits::AREA;
+use limits::ENTRY;
 use limits::MOST_PATHS;
 use limits::MOST_SETS;
 use limits::NO_ARC;
 use limits::PAIRS;
 use trial_record::Record;
 
-// How many forbidden paths can be known.
-const MOST: usize = 256;
-
 // The standing walk has passed.
 pub fn report_passed(bytes: &[u8], rec: Record, paths: &[u8], walk: &[u8]) -> Reported
-    ensures { λ r. ⌜ left r (now (paths .entry)) (now (walk .entry)) ≡ reporting (now (bytes .entry)) rec (now (paths .entry)) (now (walk .entry)) passed ⌝ }
+    ensures { λ r. ⌜ leaves r (now (paths .entry)) (now (walk .entry)) ≡ reporting (now (bytes .entry)) rec (now (paths .entry)) (now (walk .entry)) passed ⌝ }
 {
     let mut weights = [NO_ARC; PAIRS];
     let mut flags = [0u16; MOST_SETS];
@@ -37,20 +37,20 @@ pub fn report_passed(bytes: &[u8], rec: Record, paths: &[u8], walk: &[u8]) -> Re
     let read = book::load(bytes, &mut weights, &mut flags, &mut owners, &mut entries);
     match read {
         Answer::Refused(r) => Reported::Refused(r, rec),
-        Answer::Read(counts) => passed_in(&weights, counts.vertices, rec, paths, walk),
+        Answer::Read(counts) => accept_passed(&weights, counts.vertices, rec, paths, walk),
     }
 }
 
 // The same in a book that has been read.
-fn passed_in(
+fn accept_passed(
     weights: &[u32; PAIRS],
     vertices: usize,
     rec: Record,
     paths: &[u8],
     walk: &[u8],
 ) -> Reported
-    requires { ⌜ ((b : Book) × IsOf b vertices (now weights)) ⌝ }
-    ensures { λ r. ⌜ ((b : Book) → IsOf b vertices (now (weights .entry)) → left r (now (paths .entry)) (now (walk .entry)) ≡ reportingOf (accepted b) rec (now (paths .entry)) (now (walk .entry)) passed) ⌝ }
+    requires { ⌜ ((b : Book) × IsGraph b vertices (now weights)) ⌝ }
+    ensures { λ r. ⌜ ((b : Book) → IsGraph b vertices (now (weights .entry)) → leaves r (now (paths .entry)) (now (walk .entry)) ≡ reportingOf (accepted b) rec (now (paths .entry)) (now (walk .entry)) passed) ⌝ }
 {
     match judge(weights, vertices, rec, paths, walk) {
         Judged::Refused(r) => Reported::Refused(r, rec),
@@ -66,7 +66,7 @@ pub fn report_failed(
     walk: &mut [u8],
     named: &[u8],
 ) -> Reported
-    ensures { λ r. ⌜ left r (now (paths .exit)) (now (walk .exit)) ≡ reporting (now (bytes .entry)) rec (now (paths .entry)) (now (walk .entry)) (failed (now (named .entry))) ⌝ }
+    ensures { λ r. ⌜ leaves r (now (paths .exit)) (now (walk .exit)) ≡ reporting (now (bytes .entry)) rec (now (paths .entry)) (now (walk .entry)) (failed (now (named .entry))) ⌝ }
 {
     let mut weights = [NO_ARC; PAIRS];
     let mut flags = [0u16; MOST_SETS];
@@ -75,12 +75,12 @@ pub fn report_failed(
     let read = book::load(bytes, &mut weights, &mut flags, &mut owners, &mut entries);
     match read {
         Answer::Refused(r) => Reported::Refused(r, rec),
-        Answer::Read(counts) => failed_in(&weights, counts.vertices, rec, paths, walk, named),
+        Answer::Read(counts) => accept_failed(&weights, counts.vertices, rec, paths, walk, named),
     }
 }
 
 // The same in a book that has been read.
-fn failed_in(
+fn accept_failed(
     weights: &[u32; PAIRS],
     vertices: usize,
     rec: Record,
@@ -88,8 +88,8 @@ fn failed_in(
     walk: &mut [u8],
     named: &[u8],
 ) -> Reported
-    requires { ⌜ ((b : Book) × IsOf b vertices (now weights)) ⌝ }
-    ensures { λ r. ⌜ ((b : Book) → IsOf b vertices (now (weights .entry)) → left r (now (paths .exit)) (now (walk .exit)) ≡ reportingOf (accepted b) rec (now (paths .entry)) (now (walk .entry)) (failed (now (named .entry)))) ⌝ }
+    requires { ⌜ ((b : Book) × IsGraph b vertices (now weights)) ⌝ }
+    ensures { λ r. ⌜ ((b : Book) → IsGraph b vertices (now (weights .entry)) → leaves r (now (paths .exit)) (now (walk .exit)) ≡ reportingOf (accepted b) rec (now (paths .entry)) (now (walk .entry)) (failed (now (named .entry)))) ⌝ }
 {
     match judge(weights, vertices, rec, paths, walk) {
         Judged::Refused(r) => Reported::Refused(r, rec),
@@ -98,7 +98,7 @@ fn failed_in(
             if !is_named(named, vertices, &walk[..length]) {
                 return Reported::Refused(Refusal::NotStanding, rec);
             }
-            if MOST <= rec.known {
+            if MOST_PATHS <= rec.known {
                 return Reported::Refused(Refusal::Full, rec);
             }
             Reported::Accepted(replan(weights, vertices, rec, paths, walk, named))
@@ -115,12 +115,12 @@ fn replan(
     walk: &mut [u8],
     named: &[u8],
 ) -> Record
-    requires { ⌜ ((b : Book) × IsOf b vertices (now weights) × (reportRefusal b rec (now paths) (now walk) (failed (now named)) ≡ none)) ⌝ }
-    ensures { λ r. ⌜ ((b : Book) → IsOf b vertices (now (weights .entry)) → reportRefusal b rec (now (paths .entry)) (now (walk .entry)) (failed (now (named .entry))) ≡ none → left (Accepted r) (now (paths .exit)) (now (walk .exit)) ≡ reportingOf (accepted b) rec (now (paths .entry)) (now (walk .entry)) (failed (now (named .entry)))) ⌝ }
+    requires { ⌜ ((b : Book) × IsGraph b vertices (now weights) × (refusalBy (reportTests rec (now paths) (now walk) (failed (now named)) b) ≡ none)) ⌝ }
+    ensures { λ r. ⌜ ((b : Book) → IsGraph b vertices (now (weights .entry)) → refusalBy (reportTests rec (now (paths .entry)) (now (walk .entry)) (failed (now (named .entry))) b) ≡ none → leaves (Accepted r) (now (paths .exit)) (now (walk .exit)) ≡ reportingOf (accepted b) rec (now (paths .entry)) (now (walk .entry)) (failed (now (named .entry)))) ⌝ }
 {
     enter(named, rec.known, paths);
     let next = rec.failed();
-    let outcome = planner::plan_in(
+    let found = planner::find(
         weights,
         vertices,
         paths,
@@ -129,16 +129,16 @@ fn replan(
         next.end,
         walk,
     );
-    next.replanned(outcome)
+    next.replanned(found)
 }
 
 // Enters a path into an area behind `known` others.
 fn enter(path: &[u8], known: usize, paths: &mut [u8])
     requires { ⌜ length (now path) ≤ 8 ⌝ }
-    requires { ⌜ known * 9 + 9 ≤ length (now paths) ⌝ }
-    ensures { λ _. ⌜ now (paths .exit) ≡ paste (set (now (paths .entry)) (known * 9) (length (now (path .entry)))) (known * 9 + 1) (now (path .entry)) (length (now (path .entry))) ⌝ }
+    requires { ⌜ known * entrySize + entrySize ≤ length (now paths) ⌝ }
+    ensures { λ _. ⌜ now (paths .exit) ≡ paste (set (now (paths .entry)) (known * entrySize) (length (now (path .entry)))) (known * entrySize + 1) (now (path .entry)) (length (now (path .entry))) ⌝ }
 {
-    let at = known * 9;
+    let at = known * ENTRY;
     let n = path.len();
     paths[at] = n as u8;
     rules::copy(path, 0, paths, at + 1, n);

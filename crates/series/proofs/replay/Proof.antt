@@ -7,7 +7,7 @@ use mathlib.Core.Path.{_≡_, refl, sym, subst}
 use lib.ListN.{length, drop}
 use Prim.Native.Nat.{ℕ, _+_, _-_}
 use Rattle.trial_record.specs.declared.Record.{Record}
-use Rattle.trials.specs.Operations.{left, recordIn}
+use Rattle.trials.specs.Operations.{leaves, recordIn}
 use Rattle.series.specs.Reports.{sizeOf}
 use Rattle.series.specs.ReportsLaws.{size-positive}
 use Rattle.series.proofs.Listed.{at-end}
@@ -46,7 +46,7 @@ after-report : (c : tie.After-record-of Inv-loop μ-loop)
     let start = c .before .before .before .before .before .before .before .before .before .before .before .before .before in
     (P W : List ℕ)
     → Replayed (now (a .bytes)) (a .flags) (a .start) (a .end) (now (a .reports)) P W (left (start .before .begun .given .0 .0) (start .before .before .before .before .before .before .before .begin .last .1 .1 .1 .1 .0) (start .before .before .before .before .before .before .before .begin .last .1 .1 .1 .1 .1 .0)) 0
-    → Replayed (now (a .bytes)) (a .flags) (a .start) (a .end) (now (a .reports)) P W (left (recordIn (c .before .before .made .given .0 .0)) (make .last .1 .1 .1 .1 .0) (make .last .1 .1 .1 .1 .1 .0)) (c .before .before .made .given .0 .1 .0)
+    → Replayed (now (a .bytes)) (a .flags) (a .start) (a .end) (now (a .reports)) P W (leaves (recordIn (c .before .before .made .given .0 .0)) (make .last .1 .1 .1 .1 .0) (make .last .1 .1 .1 .1 .1 .0)) (c .before .before .made .given .0 .1 .0)
     × (c .before .before .made .given .0 .1 .0 ≡ c .before .before .before .before .before .before .before .before .before .before .before .before .loop .at + sizeOf (drop (c .before .before .before .before .before .before .before .before .before .before .before .before .loop .at) (now (a .reports))))
 after-report c P W h =
     let a = c .before .before .before .before .before .before .before .before .before .before .before .before .before .before .before .before .before .before .before .before .before .before .before .before .before .before .before .args in
@@ -113,7 +113,7 @@ loop-again c =
     let a = c .before .before .before .before .before .before .before .before .before .before .before .before .before .before .before .before .before .before .before .before .before .before .before .before .before .before .before .args in
     let inv = c .before .before .before .before .before .before .before .before .before .before .before .before .loop .inv in (
       λ P W h.
-          subst (λ (r : Record). Replayed (now (a .bytes)) (a .flags) (a .start) (a .end) (now (a .reports)) P W (left r (c .before .before .before .before .before .before .before .before .make .last .1 .1 .1 .1 .0) (c .before .before .before .before .before .before .before .before .make .last .1 .1 .1 .1 .1 .0)) (c .before .before .made .given .0 .1 .0))
+          subst (λ (r : Record). Replayed (now (a .bytes)) (a .flags) (a .start) (a .end) (now (a .reports)) P W (leaves r (c .before .before .before .before .before .before .before .before .make .last .1 .1 .1 .1 .0) (c .before .before .before .before .before .before .before .before .make .last .1 .1 .1 .1 .1 .0)) (c .before .before .made .given .0 .1 .0))
           (sym (c .record-of .ensures)) (after-report c P W h .0),
       omega (arith, inv .1),
       omega (arith, inv .2),

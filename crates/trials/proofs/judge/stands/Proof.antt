@@ -11,7 +11,7 @@ use Rattle.walks.specs.Walk.{isWalk}
 use Rattle.book.specs.Book.{Book, graph}
 use Rattle.rules.specs.Area.{spelled}
 use Rattle.rules.specs.ValidLaws.{valid-fits}
-use Rattle.trials.specs.Judging.{IsOf}
+use Rattle.book.specs.Tables.{IsGraph}
 use Rattle.trials.proofs.Weighing.{nonempty}
 use Rattle.trials.proofs.Standing.{only-walk, is-clear, not-clear, no-walk, other-start, other-end, unclear, feasible}
 use borrow.Author.Needs.{needs}
@@ -21,12 +21,12 @@ use Rattle.trials.proofs.judge.stands.Tie as tie
 -- what the test of the walk says
 walk-test : (c : tie.After-is-walk) (x : Bool) → c .is-walk .result ≡ x
     → let a = c .before .before .before .args in
-    (b : Book) → IsOf b (a .vertices) (now (a .weights)) → isWalk (graph b) (now (a .walk)) ≡ x
+    (b : Book) → IsGraph b (a .vertices) (now (a .weights)) → isWalk (graph b) (now (a .walk)) ≡ x
 walk-test c x e b is =
     let start = c .before .before .before in
-    sym (only-walk (graph b) (now (start .args .walk)) (start .pre .1 .0)) ∙ sym (c .is-walk .ensures b (is .well) (is .vertices-are) (is .weights-are)) ∙ e
+    sym (only-walk (graph b) (now (start .args .walk)) (start .pre .1 .0)) ∙ sym (c .is-walk .ensures b is) ∙ e
 
-walks : (c : tie.Else1) → let a = c .before .before .before .before .args in (b : Book) → IsOf b (a .vertices) (now (a .weights)) → isWalk (graph b) (now (a .walk)) ≡ true
+walks : (c : tie.Else1) → let a = c .before .before .before .before .args in (b : Book) → IsGraph b (a .vertices) (now (a .weights)) → isWalk (graph b) (now (a .walk)) ≡ true
 walks c = walk-test (c .before) true (not-false (c .before .is-walk .result) (c .if1 .left))
 
 some-vertex : (c : tie.Else1) → 1 ≤ length (now (c .before .before .before .before .args .walk))
@@ -36,7 +36,7 @@ some-vertex c =
     nonempty (graph b) (now (start .args .walk)) (walks c b is)
 
 is-walk-requires : tie.Need-is-walk-requires
-is-walk-requires c κs = let (b, is) = c .before .before .pre .0 in omega (arith, is .vertices-are, is .well .few-vertices)
+is-walk-requires c κs = c .before .before .pre .0
 
 returns : tie.Need-returns
 returns c b is =
@@ -64,8 +64,8 @@ returns-3 c b is =
     let a = else1 .before .before .before .before .args in
     other-end (graph b) (spelled (a .rec .known) (now (a .paths))) (a .rec .start) (a .rec .end) (now (a .walk)) (a .rec .litres) (walks else1 b is) (else2 .if2 .left) (c .if3 .taken)
 
-search-requires : tie.Need-search-requires
-search-requires c κs =
+first-occurrence-requires : tie.Need-first-occurrence-requires
+first-occurrence-requires c κs =
     let start = c .before .before .before .before .before .before .before .before .before .before in
     let fits = valid-fits (start .args .vertices) (now (start .args .paths)) (start .args .rec .known) (start .pre .1 .1 .1) in
     (omega (arith, fits .0, start .pre .1 .1 .0), fits .1)
@@ -81,7 +81,7 @@ returns-4 c b is =
     let a = else1 .before .before .before .before .args in
     unclear (graph b) (spelled (a .rec .known) (now (a .paths))) (a .rec .start) (a .rec .end) (now (a .walk)) (a .rec .litres) (walks else1 b is) (else2 .if2 .left) (search .before .if3 .left)
     (not-clear (a .vertices) (now (a .paths)) (a .rec .known) (now (a .walk))
-    (λ e. ⊎-elim (λ k. omega arith) (λ k. omega arith) (rw (search .search .ensures ∙ e) at (c .match .keys2))))
+    (λ e. ⊎-elim (λ k. omega arith) (λ k. omega arith) (rw (search .first-occurrence .ensures ∙ e) at (c .match .keys2))))
 
 weigh-requires : tie.Need-weigh-requires
 weigh-requires c κs =
@@ -98,8 +98,8 @@ returns-5 c b is =
     let a = start .args in
     let on = walks else1 b is in
     feasible (graph b) (spelled (a .rec .known) (now (a .paths))) (a .rec .start) (a .rec .end) (now (a .walk)) (a .rec .litres) on (else2 .if2 .left) (search .before .if3 .left)
-    (is-clear (a .vertices) (now (a .paths)) (a .rec .known) (now (a .walk)) (start .pre .1 .1 .0) (start .pre .1 .1 .1)
-    (sym (search .search .ensures) ∙ c .before .before .enum-told .given .1))
+    (is-clear (a .vertices) (now (a .paths)) (a .rec .known) (now (a .walk)) (start .pre .1 .1 .1)
+    (sym (search .first-occurrence .ensures) ∙ c .before .before .enum-told .given .1))
     (c .before .weigh .result) (c .before .weigh .ensures b is on)
 
 pub stands-spec : {M : Type 1} → statement M
@@ -113,7 +113,7 @@ stands-spec =
     sub-if3
     shared-slice-read-if3
     returns-3
-    search-requires
+    first-occurrence-requires
     enum-told
     returns-4
     weigh-requires

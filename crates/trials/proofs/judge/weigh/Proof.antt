@@ -7,7 +7,7 @@ use denote.Ref.{now}
 use lib.ListN.{length, getD}
 use Rattle.walks.specs.Walk.{isWalk}
 use Rattle.book.specs.Book.{Book, graph}
-use Rattle.trials.specs.Judging.{IsOf}
+use Rattle.book.specs.Tables.{IsGraph}
 use Rattle.trials.proofs.Weighing.{Weighed, of-weights, nonempty, start-weighed, next-weighed, next-below, entry-light, end-weighed}
 use borrow.Author.Needs.{needs}
 use Rattle.trials.proofs.judge.weigh.Statement.{statement}
@@ -15,7 +15,7 @@ use Rattle.trials.proofs.judge.weigh.Tie as tie
 
 abbrev Inv-loop : tie.InvT-loop
 Inv-loop weights vertices walk sum₀ u₀ i₀ sum u i =
-    (i ≤ length walk) × ((b : Book) → IsOf b vertices weights → isWalk (graph b) walk ≡ true → Weighed (graph b) walk sum u i)
+    (i ≤ length walk) × ((b : Book) → IsGraph b vertices weights → isWalk (graph b) walk ≡ true → Weighed (graph b) walk sum u i)
 
 abbrev μ-loop : tie.MeasureT-loop
 μ-loop weights vertices walk sum₀ u₀ i₀ sum u i = length walk - i

@@ -4,10 +4,9 @@ use denote.Ref.{now}
 use mathlib.Core.Path.{sym, ap, _∙_}
 use Rattle.book.specs.BookLaws.{answer-refused}
 use Rattle.book.specs.Reading.{reading}
-use Rattle.rules.proofs.Loaded.{Loaded, loaded, vertices-are}
+use Rattle.book.specs.Loaded.{Loaded, loaded}
 use Rattle.trial_rules.specs.Trials.{failed}
 use Rattle.trials.specs.Operations.{reportingOf}
-use Rattle.trials.specs.Judging.{IsOf}
 use Rattle.trials.proofs.report.report_failed.Statement.{statement}
 use Rattle.trials.proofs.report.report_failed.Tie as tie
 
@@ -20,11 +19,6 @@ book c =
     loaded (now (c .before .before .before .before .before .before .before .before .before .before .before .before .args .bytes)) (load .load .result) (c .before .read2 .given .0 .0) _ _ _ _
     (load .load .ensures .0) (load .load .ensures .1) (c .before .read2 .given .1)
 
-is-of : (c : tie.After-known-told2) → IsOf (book c .book) (c .before .read2 .given .0 .0 .vertices) (c .before .before .before .load .last .1 .0)
-is-of c =
-    let b = book c in
-    record { well = b .well; vertices-are = vertices-are _ _ _ _ _ _ b; weights-are = b .tables .weights-are }
-
 load-requires : tie.Need-load-requires
 load-requires c κs = search needs
 
@@ -34,10 +28,10 @@ enum-known-read c = search needs
 enum-known-read-2 : tie.Need-enum-known-read-2
 enum-known-read-2 c = search needs
 
-failed-in-requires : tie.Need-failed-in-requires
-failed-in-requires c κs =
+accept-failed-requires : tie.Need-accept-failed-requires
+accept-failed-requires c κs =
     let b = book (c .before .before .before) in
-    (b .book, is-of (c .before .before .before))
+    (b .book, b .graph)
 
 returns : tie.Need-returns
 returns c =
@@ -55,7 +49,7 @@ returns-2 : tie.Need-returns-2
 returns-2 c =
     let told = c .before .before .before .before .before .before .before .before in
     let a = c .before .before .before .before .before .before .before .before .before .before .before .before .before .before .before .before .before .before .before .before .args in
-    c .before .before .before .before .failed-in .ensures (book told .book) (is-of told) ∙ sym (ap (λ x. reportingOf x (a .rec) (now (a .paths)) (now (a .walk)) (failed (now (a .named)))) (book told .is))
+    c .before .before .before .before .accept-failed .ensures (book told .book) (book told .graph) ∙ sym (ap (λ x. reportingOf x (a .rec) (now (a .paths)) (now (a .walk)) (failed (now (a .named)))) (book told .is))
 
 pub report-failed-spec : {M : Type 1} → statement M
 report-failed-spec =
@@ -64,7 +58,7 @@ report-failed-spec =
     load-requires
     enum-known-read
     enum-known-read-2
-    failed-in-requires
+    accept-failed-requires
     returns
     same-length
     same-length-2

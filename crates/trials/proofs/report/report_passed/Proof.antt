@@ -4,10 +4,9 @@ use denote.Ref.{now}
 use mathlib.Core.Path.{sym, ap, _∙_}
 use Rattle.book.specs.BookLaws.{answer-refused}
 use Rattle.book.specs.Reading.{reading}
-use Rattle.rules.proofs.Loaded.{Loaded, loaded, vertices-are}
+use Rattle.book.specs.Loaded.{Loaded, loaded}
 use Rattle.trial_rules.specs.Trials.{passed}
 use Rattle.trials.specs.Operations.{reportingOf}
-use Rattle.trials.specs.Judging.{IsOf}
 use Rattle.trials.proofs.report.report_passed.Statement.{statement}
 use Rattle.trials.proofs.report.report_passed.Tie as tie
 
@@ -20,11 +19,6 @@ book c =
     loaded (now (c .before .before .before .before .before .before .before .before .before .before .before .args .bytes)) (load .load .result) (c .before .read2 .given .0 .0) _ _ _ _
     (load .load .ensures .0) (load .load .ensures .1) (c .before .read2 .given .1)
 
-is-of : (c : tie.After-known-told2) → IsOf (book c .book) (c .before .read2 .given .0 .0 .vertices) (c .before .before .before .load .last .1 .0)
-is-of c =
-    let b = book c in
-    record { well = b .well; vertices-are = vertices-are _ _ _ _ _ _ b; weights-are = b .tables .weights-are }
-
 load-requires : tie.Need-load-requires
 load-requires c κs = search needs
 
@@ -34,10 +28,10 @@ enum-known-read c = search needs
 enum-known-read-2 : tie.Need-enum-known-read-2
 enum-known-read-2 c = search needs
 
-passed-in-requires : tie.Need-passed-in-requires
-passed-in-requires c κs =
+accept-passed-requires : tie.Need-accept-passed-requires
+accept-passed-requires c κs =
     let b = book (c .before) in
-    (b .book, is-of (c .before))
+    (b .book, b .graph)
 
 returns : tie.Need-returns
 returns c =
@@ -49,7 +43,7 @@ returns-2 : tie.Need-returns-2
 returns-2 c =
     let told = c .before .before in
     let a = c .before .before .before .before .before .before .before .before .before .before .before .before .before .args in
-    c .passed-in .ensures (book told .book) (is-of told) ∙ sym (ap (λ x. reportingOf x (a .rec) (now (a .paths)) (now (a .walk)) passed) (book told .is))
+    c .accept-passed .ensures (book told .book) (book told .graph) ∙ sym (ap (λ x. reportingOf x (a .rec) (now (a .paths)) (now (a .walk)) passed) (book told .is))
 
 pub report-passed-spec : {M : Type 1} → statement M
 report-passed-spec =
@@ -58,6 +52,6 @@ report-passed-spec =
     load-requires
     enum-known-read
     enum-known-read-2
-    passed-in-requires
+    accept-passed-requires
     returns
     returns-2)

@@ -1,14 +1,14 @@
--- `trials::passed_in` meets its contract: the judgement, and then the record's step.
+-- `trials::accept_passed` meets its contract: the judgement, and then the record's step.
 use borrow.Author.Needs.{needs}
 use denote.Ref.{now}
 use mathlib.Core.Path.{sym, ap, _∙_}
 use Rattle.trial_record.specs.declared.Record.{Record}
 use Rattle.trials.specs.declared.Reported.{Reported}
 use Rattle.trial_rules.specs.Trials.{passed}
-use Rattle.trials.specs.Operations.{left}
+use Rattle.trials.specs.Operations.{leaves}
 use Rattle.trials.proofs.Reporting.{refused, has-passed}
-use Rattle.trials.proofs.report.passed_in.Statement.{statement}
-use Rattle.trials.proofs.report.passed_in.Tie as tie
+use Rattle.trials.proofs.report.accept_passed.Statement.{statement}
+use Rattle.trials.proofs.report.accept_passed.Tie as tie
 
 judge-requires : tie.Need-judge-requires
 judge-requires c κs = search needs
@@ -31,11 +31,11 @@ returns-2 : tie.Need-returns-2
 returns-2 c =
     let a = c .before .before .before .before .before .before .args in
     λ b of.
-    ap (λ (z : Record). left (Reported.Accepted z) (now (a .paths)) (now (a .walk))) (c .passed .ensures)
+    ap (λ (z : Record). leaves (Reported.Accepted z) (now (a .paths)) (now (a .walk))) (c .passed .ensures)
     ∙ has-passed b (a .rec) (now (a .paths)) (now (a .walk)) (sym (c .before .enum-told .given .1) ∙ c .before .before .before .judge .ensures b of)
 
-pub passed-in-spec : {M : Type 1} → statement M
-passed-in-spec =
+pub accept-passed-spec : {M : Type 1} → statement M
+accept-passed-spec =
     tie.close
     (tie.spec
     judge-requires

@@ -1,4 +1,4 @@
--- `trials::failed_in` meets its contract: the judgement, 12 and 13, and then the plan anew.
+-- `trials::accept_failed` meets its contract: the judgement, 12 and 13, and then the plan anew.
 use borrow.Author.Needs.{needs}
 use borrow.Author.Tests.{not-true, not-false, le-ltb, lt-ltb}
 use denote.Ref.{now}
@@ -8,35 +8,39 @@ use mathlib.Core.Path.{_≡_, sym, ap, _∙_}
 use lib.ListN.{take}
 use lib.Seq.{length-take-le}
 use Rattle.walks.specs.Avoid.{occurs}
-use Rattle.book.specs.Book.{Book, graph}
+use Rattle.limits.specs.Limits.{mostPaths}
+use Rattle.book.specs.Book.{Book, isPath, graph}
+use Rattle.book.specs.Refusal.{refusalBy}
+use Rattle.book.specs.RefusalLaws.{here, later}
 use Rattle.trials.specs.declared.judge.Judged.the-variants.{Standing}
-use Rattle.trial_rules.specs.Trials.{failed, takes, isNamed}
-use Rattle.trials.specs.Operations.{stateOf, barred, reportRefusal}
-use Rattle.trials.specs.Judging.{IsOf, judgedAs}
-use Rattle.trials.proofs.Reporting.{refused, walk-fits, not-standing, no-room, ready}
-use Rattle.trials.proofs.report.failed_in.Statement.{statement}
-use Rattle.trials.proofs.report.failed_in.Tie as tie
+use Rattle.trial_rules.specs.Trials.{failed, isNamed}
+use Rattle.trials.specs.Operations.{stateOf, judgeTests, reportTests}
+use Rattle.book.specs.Tables.{IsGraph}
+use Rattle.trials.specs.Judging.{judgedAs}
+use Rattle.trials.proofs.Reporting.{refused, walk-fits, said-fails, ready}
+use Rattle.trials.proofs.report.accept_failed.Statement.{statement}
+use Rattle.trials.proofs.report.accept_failed.Tie as tie
 
 -- a walk stands
-stands : (c : tie.After-enum-told) → let a = c .before .before .before .before .before .before .before .before .args in (b : Book) → IsOf b (a .vertices) (now (a .weights)) → Standing ≡ judgedAs (barred b (a .rec) (now (a .paths)) (now (a .walk)) true true)
+stands : (c : tie.After-enum-told) → let a = c .before .before .before .before .before .before .before .before .args in (b : Book) → IsGraph b (a .vertices) (now (a .weights)) → Standing ≡ judgedAs (refusalBy (judgeTests (a .rec) (now (a .paths)) (now (a .walk)) b))
 stands c b of = sym (c .enum-told .given .1) ∙ c .before .before .judge .ensures b of
 
 -- 12, as the code tests it
 named-is : (c : tie.After-is-named) (x : Bool) → c .is-named .result ≡ x
     → let a = c .before .before .before .before .before .before .before .before .before .before .args in
-    (b : Book) → IsOf b (a .vertices) (now (a .weights)) → isNamed (graph b) (stateOf (a .rec) (now (a .paths)) (now (a .walk))) (failed (now (a .named))) ≡ x
+    (b : Book) → IsGraph b (a .vertices) (now (a .weights)) → isNamed (graph b) (stateOf (a .rec) (now (a .paths)) (now (a .walk))) (failed (now (a .named))) ≡ x
 named-is c x e b of =
     let a = c .before .before .before .before .before .before .before .before .before .before .args in
-    ap (λ n. takes n (now (a .named)) && occurs (now (a .named)) (take (a .rec .length) (now (a .walk)))) (sym (of .vertices-are)) ∙ sym (c .is-named .ensures) ∙ e
+    ap (λ n. isPath n (now (a .named)) && occurs (now (a .named)) (take (a .rec .length) (now (a .walk)))) (sym (of .vertices-are)) ∙ sym (c .is-named .ensures) ∙ e
 
 -- nothing is refused
 is-ready : (c : tie.Else2)
     → let a = c .before .before .before .before .before .before .before .before .before .before .before .before .before .args in
-    (b : Book) → IsOf b (a .vertices) (now (a .weights)) → reportRefusal b (a .rec) (now (a .paths)) (now (a .walk)) (failed (now (a .named))) ≡ none
+    (b : Book) → IsGraph b (a .vertices) (now (a .weights)) → refusalBy (reportTests (a .rec) (now (a .paths)) (now (a .walk)) (failed (now (a .named))) b) ≡ none
 is-ready c b of =
     let a = c .before .before .before .before .before .before .before .before .before .before .before .before .before .args in
     ready b (a .rec) (now (a .paths)) (now (a .walk)) (stands (c .before .before .before .before .before) b of) (now (a .named))
-    (named-is (c .before .before .before) _ (not-false (c .before .before .before .is-named .result) (c .before .before .if1 .left)) b of) (lt-ltb (a .rec .known) 256 (c .if2 .left))
+    (named-is (c .before .before .before) _ (not-false (c .before .before .before .is-named .result) (c .before .before .if1 .left)) b of, (lt-ltb (a .rec .known) mostPaths (c .if2 .left), tt))
 
 judge-requires : tie.Need-judge-requires
 judge-requires c κs = search needs
@@ -73,7 +77,7 @@ same-length-2 c = search needs
 returns : tie.Need-returns
 returns c =
     let a = c .before .before .before .before .before .before .before .before .before .before .before .args in
-    λ b of. not-standing b (a .rec) (now (a .paths)) (now (a .walk)) (stands (c .before .before .before) b of) (now (a .named)) (named-is (c .before) _ (not-true (c .before .is-named .result) (c .if1 .taken)) b of)
+    λ b of. said-fails b (a .rec) (now (a .paths)) (now (a .walk)) (stands (c .before .before .before) b of) (now (a .named)) (here (named-is (c .before) _ (not-true (c .before .is-named .result) (c .if1 .taken)) b of))
 
 same-length-3 : tie.Need-same-length-3
 same-length-3 c = search needs
@@ -85,8 +89,8 @@ returns-2 : tie.Need-returns-2
 returns-2 c =
     let a = c .before .before .before .before .before .before .before .before .before .before .before .before .before .args in
     λ b of.
-    no-room b (a .rec) (now (a .paths)) (now (a .walk)) (stands (c .before .before .before .before .before) b of) (now (a .named)) (named-is (c .before .before .before) _ (not-false (c .before .before .before .is-named .result) (c .before .before .if1 .left)) b of)
-    (le-ltb (a .rec .known) 256 (c .if2 .taken))
+    said-fails b (a .rec) (now (a .paths)) (now (a .walk)) (stands (c .before .before .before .before .before) b of) (now (a .named))
+    (later (named-is (c .before .before .before) _ (not-false (c .before .before .before .is-named .result) (c .before .before .if1 .left)) b of) (here (le-ltb (a .rec .known) mostPaths (c .if2 .taken))))
 
 replan-requires : tie.Need-replan-requires
 replan-requires c κs =
@@ -114,8 +118,8 @@ returns-4 : tie.Need-returns-4
 returns-4 c =
     λ b of. c .before .before .before .before .replan .ensures b of (is-ready (c .before .before .before .before .before .before .before) b of)
 
-pub failed-in-spec : {M : Type 1} → statement M
-failed-in-spec =
+pub accept-failed-spec : {M : Type 1} → statement M
+accept-failed-spec =
     tie.close
     (tie.spec
     judge-requires
