@@ -17,10 +17,10 @@ use Rattle.trials.specs.declared.Begun.{Begun}
 use Rattle.trials.specs.declared.Reported.{Reported}
 use Rattle.series.specs.declared.Made.{Made}
 use Rattle.trial_rules.specs.Trials.{Report, State, beginRefusal, after, run, stateAfter}
-use Rattle.trials.specs.Operations.{Leaves, leaves, begunAs, firstState, beginningOf, beginning, reporting, replayingOf, replaying, recordIn}
+use Rattle.trials.specs.Operations.{Leaves, leaves, begunAs, firstState, beginningOf, beginning, reporting, recordIn}
 use Rattle.series.specs.Reports.{isReport, reportIn, sizeOf, reportsOf}
 use Rattle.series.specs.ReportsLaws.{reports-cons, reports-none}
-use Rattle.series.specs.Making.{madeIf, making}
+use Rattle.series.specs.Making.{madeIf, making, replayingOf, replaying}
 use Rattle.trial_rules.specs.Invariant.{Invariant, invariant-begin}
 use Rattle.series.specs.Whole.{leavesOf, reportOn, report-leaves, after-keeps, opened, replay-leaves}
 
@@ -77,7 +77,7 @@ module _ (s : List ℕ) (flags start end : ℕ) (reports paths₀ walk₀ : List
                 state = σ;
                 done = [];
                 keeps = invariant-begin (opened s b read flags start end paths₀ walk₀ begins);
-                held = ap₂ (λ (x : Record) (l : Leaves Begun). left x (l .paths) (l .walk)) r-is e;
+                held = ap₂ (λ (x : Record) (l : Leaves Begun). leaves x (l .paths) (l .walk)) r-is e;
                 leads = refl;
               }
 

@@ -12,8 +12,9 @@ use Rattle.trial_record.specs.declared.Record.{Record}
 use Rattle.trials.specs.declared.Begun.{Begun}
 use Rattle.trials.specs.declared.Reported.{Reported}
 use Rattle.trial_rules.specs.Trials.{Report, State, pathArea, beginRefusal, refusal, Valid, unless, step, after, run, Begin, begun, stateAfter, acceptedOf}
-use Rattle.trials.specs.Operations.{Leaves, leaves, begunAs, beginningOf, beginning, reportedAs, reportingOf, reporting, replayingOf, replaying, recordIn}
+use Rattle.trials.specs.Operations.{Leaves, leaves, begunAs, beginningOf, beginning, reportedAs, reportingOf, reporting, recordIn}
 use Rattle.trials.specs.OperationLaws.{same-step}
+use Rattle.series.specs.Making.{replayingOf, replaying}
 use Rattle.series.specs.Reports.{reportsOf}
 use Rattle.trials.specs.Replanning.{trialsOf}
 use Rattle.trial_rules.specs.Invariant.{Invariant, invariant-begin, invariant-step}

@@ -52,8 +52,10 @@ tested : (c : tie.Else4)
 tested c b g =
     let a = c .before .before .before .before .before .before .before .args in (
       le-leb _ _ (c .before .before .before .if1 .left),
-      (le-leb _ _ (c .before .before .if2 .left),
-      (lt-ltb (a .start) (b .count) (omega (arith, g .vertices-are, c .before .if3 .left)), (lt-ltb (a .end) (b .count) (omega (arith, g .vertices-are, c .if4 .left)), tt))),
+      (
+        le-leb _ _ (c .before .before .if2 .left),
+        (lt-ltb (a .start) (b .count) (omega (arith, g .vertices-are, c .before .if3 .left)), (lt-ltb (a .end) (b .count) (omega (arith, g .vertices-are, c .if4 .left)), tt)),
+      ),
     )
 
 slice-aggregate-gather : tie.Need-slice-aggregate-gather
