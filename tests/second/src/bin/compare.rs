@@ -6,6 +6,7 @@ use second::frames;
 use second::inputs;
 use second::kinds::Kind;
 use second::programs::MOST_INPUT;
+use second::vectors;
 use std::io::{self, Write};
 use std::process::{Child, Command, ExitCode, Output, Stdio};
 use std::thread;
@@ -46,7 +47,7 @@ fn show(words: &[&str]) -> Option<ExitCode> {
     let ["--show", kind, seed, index] = *words else { return None };
     let (kind, framed) = kind_named(kind)?;
     let case = inputs::case(kind, seed.parse().ok()?, index.parse().ok()?);
-    let input = if framed { frames::frame(&case) } else { case };
+    let input = if framed { frames::frame(kind, &case) } else { case };
     match io::stdout().write_all(&input) {
         Ok(()) => Some(ExitCode::SUCCESS),
         Err(_) => Some(ExitCode::FAILURE),
@@ -85,7 +86,7 @@ impl<'a> Task<'a> {
         if self.framed && case.len() > MOST_INPUT {
             return true;
         }
-        let input = if self.framed { frames::frame(&case) } else { case.clone() };
+        let input = if self.framed { frames::frame(self.kind, &case) } else { case.clone() };
         let difference = difference(self.command, &input, &self.kind.run(&case));
         if let Some(text) = &difference {
             println!("DIFFERENT {} seed {} index {index}: {text}", self.name, self.seed);
@@ -116,8 +117,8 @@ impl<'a> Task<'a> {
     fn stream_difference(&self, from: u64, to: u64) -> Option<String> {
         let cases: Vec<Vec<u8>> =
             (from..to).map(|index| inputs::case(self.kind, self.seed, index)).collect();
-        let stream = frames::join(&second::vectors::fit_for_stream(cases));
-        difference(self.command, &stream, &self.kind.run_stream(&stream))
+        let stream = frames::join(self.kind, &vectors::fit_for_stream(cases));
+        difference(self.command, &stream, &frames::run(&stream))
     }
 }
 
