@@ -133,6 +133,24 @@ fn compare_reports_each_difference() {
     }
 }
 
+/// A program that never ends is ended, and is the last one to be run.
+#[test]
+fn compare_ends_a_program_that_hangs() {
+    for (kind, place) in [("plan", "index 0"), ("plans", "indexes 0 to 2 in one stream")] {
+        let words = ["--limit", "1", kind, "3", "2", "--", "sleep", "1000"];
+        let output = run(COMPARE, &words, &[]);
+        assert!(!output.status.success());
+        let hangs = "hangs: still running after 1 s, and ended";
+        assert_eq!(
+            text(&output),
+            format!(
+                "DIFFERENT {kind} seed 2 {place}: {hangs}\n\
+                 {kind}: 3 inputs of seed 2, 1 different\n"
+            )
+        );
+    }
+}
+
 #[test]
 fn compare_shows_the_input_of_a_case() {
     let case = inputs::case(Kind::Plan, 6, 9);
