@@ -21,8 +21,8 @@ pub fn join(kind: Kind, cases: &[Vec<u8>]) -> Vec<u8> {
 pub fn split(stream: &[u8]) -> Vec<&[u8]> {
     let mut frames = Vec::new();
     let mut rest = stream;
-    while let Some((head, tail)) = rest.split_first_chunk::<4>() {
-        let length = u32::from_be_bytes(*head) as usize;
+    while let [a, b, c, d, tail @ ..] = rest {
+        let length = u32::from_be_bytes([*a, *b, *c, *d]) as usize;
         if tail.len() < length {
             break;
         }

@@ -13,22 +13,25 @@ const USAGE: &str = "usage: vectors SEED OUTDIR";
 
 fn main() -> ExitCode {
     let words: Vec<String> = std::env::args().skip(1).collect();
-    let Some((seed, folder)) = arguments(&words) else {
-        eprintln!("{USAGE}");
-        return ExitCode::FAILURE;
-    };
-    match write(seed, folder) {
-        Ok(()) => ExitCode::SUCCESS,
-        Err(error) => {
-            eprintln!("cannot write to {folder}: {error}");
-            ExitCode::FAILURE
-        }
+    match arguments(&words) {
+        None => fail(USAGE),
+        Some((seed, folder)) => match write(seed, folder) {
+            Ok(()) => ExitCode::SUCCESS,
+            Err(error) => fail(&format!("cannot write to {folder}: {error}")),
+        },
     }
 }
 
 fn arguments(words: &[String]) -> Option<(u64, &str)> {
-    let [seed, folder] = words else { return None };
-    Some((seed.parse().ok()?, folder))
+    match words {
+        [seed, folder] => Some((seed.parse().ok()?, folder)),
+        _ => None,
+    }
+}
+
+fn fail(message: &str) -> ExitCode {
+    eprintln!("{message}");
+    ExitCode::FAILURE
 }
 
 fn write(seed: u64, folder: &str) -> io::Result<()> {
