@@ -1,9 +1,10 @@
 -- What the comparisons find in records and in refusals.
 use Prim.Native.Nat.{ℕ}
 use mathlib.Core.Bool.{false, cond, false≢true}
-use mathlib.Core.Path.{_≡_, refl, sym, ap₂, _∙_}
+use mathlib.Core.Path.{_≡_, refl, sym, ap, ap₂, _∙_}
 use native.Mathlib.Omega.{arith}
 use lib.Dec.{eqb}
+use Rattle.book.specs.declared.Numbered.{Numbered}
 use Rattle.book.specs.declared.Refusal.{Refusal}
 use Rattle.book.specs.declared.Refusal.the-variants.{Truncated, Tag, Length, Value, Repeated, TooMany, Endpoint, Area, Invalid, NotAWalk, Ended, NotStanding, Full}
 use Rattle.book.specs.Refusal.{told}
@@ -48,8 +49,23 @@ refusal-again Ended = refl
 refusal-again NotStanding = refl
 refusal-again Full = refl
 
-pub same-told : (x y : Refusal) → told x .number ≡ told y .number → told x .place ≡ told y .place → x ≡ y
-same-told x y n p = sym (refusal-again x) ∙ ap₂ refusalAt n p ∙ refusal-again y
+-- What tells two refusals apart.
+module _ (x y : Refusal) {a b : Numbered} (of-x : a ≡ told x) (of-y : b ≡ told y) where
+  pub same-told : a .number ≡ b .number → a .place ≡ b .place → x ≡ y
+  same-told n p =
+      sym (refusal-again x)
+      ∙ ap₂ refusalAt (sym (ap (λ (k : Numbered). k .number) of-x) ∙ n ∙ ap (λ (k : Numbered). k .number) of-y)
+      (sym (ap (λ (k : Numbered). k .place) of-x) ∙ p ∙ ap (λ (k : Numbered). k .place) of-y)
+      ∙ refusal-again y
+
+  told-same : x ≡ y → a ≡ b
+  told-same e = of-x ∙ ap told e ∙ sym of-y
+
+  pub same-number : x ≡ y → a .number ≡ b .number
+  same-number e = ap (λ (k : Numbered). k .number) (told-same e)
+
+  pub same-place : x ≡ y → a .place ≡ b .place
+  same-place e = ap (λ (k : Numbered). k .place) (told-same e)
 
 -- A record is no refusal, and each is known by what it holds.
 pub not-record : {x : Record} {r : Refusal} → Begun.Record x ≡ Begun.Refused r → ⊥

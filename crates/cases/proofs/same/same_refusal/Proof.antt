@@ -1,10 +1,7 @@
 -- `same_refusal` meets its contract: a refusal is known by its number and its place.
 use borrow.Author.Needs.{needs}
-use mathlib.Core.Path.{sym, ap, _∙_}
 use borrow.Author.Tests.{eqb-true, eq-eqb}
-use Rattle.book.specs.declared.Numbered.{Numbered}
-use Rattle.book.specs.Refusal.{told}
-use Rattle.cases.proofs.Compared.{same-told}
+use Rattle.cases.proofs.Compared.{same-told, same-number, same-place}
 use Rattle.cases.proofs.same.same_refusal.Statement.{statement}
 use Rattle.cases.proofs.same.same_refusal.Tie as tie
 
@@ -16,21 +13,15 @@ number-of-requires-2 c κs = search needs
 
 returns : tie.Need-returns
 returns c =
-    let a = c .before .before .before .before .before .before .number-of in
-    let b = c .before .before .before .before .before .number-of2 in (
-      λ e. same-told _ _
-          (sym (ap (λ (n : Numbered). n .number) (a .ensures)) ∙ c .before .before .if1 .taken ∙ ap (λ (n : Numbered). n .number) (b .ensures))
-          (sym (ap (λ (n : Numbered). n .place) (a .ensures)) ∙ eqb-true _ _ e ∙ ap (λ (n : Numbered). n .place) (b .ensures)),
-      λ e. eq-eqb _ _ (ap (λ (n : Numbered). n .place) (a .ensures ∙ ap told e ∙ sym (b .ensures))),
-    )
+    let a = c .before .before .before .before .before .before .number-of .ensures in
+    let b = c .before .before .before .before .before .number-of2 .ensures in
+    (λ e. same-told _ _ a b (c .before .before .if1 .taken) (eqb-true _ _ e), λ e. eq-eqb _ _ (same-place _ _ a b e))
 
 returns-2 : tie.Need-returns-2
 returns-2 c =
-    let a = c .before .before .before .before .number-of in
-    let b = c .before .before .before .number-of2 in (
-      λ e. absurd (c .if1 .left (eqb-true _ _ e)),
-      λ e. eq-eqb _ _ (ap (λ (n : Numbered). n .number) (a .ensures ∙ ap told e ∙ sym (b .ensures))),
-    )
+    let a = c .before .before .before .before .number-of .ensures in
+    let b = c .before .before .before .number-of2 .ensures in
+    (λ e. absurd (c .if1 .left (eqb-true _ _ e)), λ e. eq-eqb _ _ (same-number _ _ a b e))
 
 pub same-refusal-spec : {M : Type 1} → statement M
 same-refusal-spec = tie.close (tie.spec number-of-requires number-of-requires-2 returns returns-2)
