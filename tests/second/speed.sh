@@ -1,15 +1,23 @@
 #!/bin/sh
-# Counts the machine instructions of a planner and of `second plan` on the same
-# inputs, with valgrind's callgrind, and prints the ratio for each input.
+# Holds a planner against the second one on the same inputs: the time that framed
+# streams of plans take, and the machine instructions of single plans (valgrind's
+# callgrind). Prints the ratio for each input.
 #
 #   ./speed.sh                      takes ../../target/bin/plan
-#   ./speed.sh COMMAND WORDS...     takes that command
+#   ./speed.sh COMMAND WORDS...     counts the instructions of that command
+#   STREAM=PROGRAM ./speed.sh       times that program (../../target/bin/frames otherwise)
+#   ROUNDS=9 ./speed.sh             runs each program more often (5 times otherwise)
 #   SEED=7 ./speed.sh               other random inputs (the seed is 1 otherwise)
 set -eu
 
 here=$(cd "$(dirname "$0")" && pwd)
 seed=${SEED:-1}
+rounds=${ROUNDS:-5}
+stream=${STREAM:-$here/../../target/bin/frames}
 second=$here/target/release/second
+
+# Each input with the number of plans in its stream.
+streams="typical:10000 largest:300 chain:500 winding:500"
 inputs="nothing typical largest chain upward downward winding"
 
 if [ $# -eq 0 ]; then
@@ -20,6 +28,73 @@ install_valgrind() {
     command -v valgrind >/dev/null && return
     echo "installing valgrind" >&2
     apt-get update >&2 && apt-get install -y valgrind >&2
+}
+
+ratio() {
+    awk -v first="$1" -v other="$2" 'BEGIN { printf "%.2f", first / other }'
+}
+
+seconds() {
+    awk -v time="$1" 'BEGIN { printf "%.3f", time / 1e9 }'
+}
+
+# The nanoseconds of a run on the stream, or nothing if it fails.
+time_of() {
+    output=$1
+    shift
+    from=$(date +%s%N)
+    "$@" <"$work/stream" >"$output" || return 0
+    to=$(date +%s%N)
+    echo $((to - from))
+}
+
+# The less of two times, of which the first may still be missing.
+less() {
+    if [ -z "$1" ] || [ "$2" -lt "$1" ]; then echo "$2"; else echo "$1"; fi
+}
+
+# The shortest run of each program counts: what disturbs a run only lengthens it.
+time_stream() {
+    name=$1
+    count=$2
+    "$second" inputs "$name" "$seed" "$count" >"$work/stream"
+    first=
+    other=
+    shown=
+    round=0
+    while [ $round -lt "$rounds" ]; do
+        round=$((round + 1))
+        one=$(time_of "$work/output" "$stream")
+        two=$(time_of "$work/expected" "$second" frames)
+        if [ -z "$one" ] || [ -z "$two" ]; then
+            shown="failed"
+            break
+        elif ! cmp -s "$work/output" "$work/expected"; then
+            shown="different answers"
+            break
+        fi
+        first=$(less "$first" "$one")
+        other=$(less "$other" "$two")
+    done
+    if [ -n "$shown" ]; then
+        status=1
+        printf '%-10s %7s %15s %15s %7s\n' "$name" "$count" - - "$shown"
+    else
+        printf '%-10s %7s %15s %15s %7s\n' "$name" "$count" \
+            "$(seconds "$first")" "$(seconds "$other")" "$(ratio "$first" "$other")"
+    fi
+}
+
+time_streams() {
+    if ! command -v "$stream" >/dev/null; then
+        echo "There is no program at $stream yet: nothing is timed."
+        return
+    fi
+    echo "seconds for a stream of plans, the least of $rounds runs"
+    printf '%-10s %7s %15s %15s %7s\n' input plans first second ratio
+    for pair in $streams; do
+        time_stream "${pair%:*}" "${pair#*:}"
+    done
 }
 
 # The instructions that a command takes on an input, or nothing if it fails.
@@ -40,24 +115,9 @@ make_input() {
     [ "$1" = nothing ] || "$second" input "$1" "$seed"
 }
 
-ratio() {
-    awk -v first="$1" -v other="$2" 'BEGIN { printf "%.2f", first / other }'
-}
-
-install_valgrind
-cargo build --quiet --release --offline --manifest-path "$here/Cargo.toml" --target-dir "$here/target"
-work=$(mktemp -d)
-trap 'rm -rf "$work"' EXIT
-
-first_there=yes
-if ! command -v "$1" >/dev/null; then
-    first_there=no
-    echo "There is no planner at $1 yet: only the second planner is counted."
-fi
-
-status=0
-printf '%-10s %15s %15s %7s\n' input first second ratio
-for name in $inputs; do
+count_input() {
+    name=$1
+    shift
     make_input "$name" >"$work/input"
     other=$(instructions "$work/input" "$second" plan)
     cp "$work/output" "$work/expected"
@@ -76,5 +136,27 @@ for name in $inputs; do
         fi
     fi
     printf '%-10s %15s %15s %7s\n' "$name" "$first" "$other" "$shown"
-done
+}
+
+count_inputs() {
+    first_there=yes
+    if ! command -v "$1" >/dev/null; then
+        first_there=no
+        echo "There is no planner at $1 yet: only the second planner is counted."
+    fi
+    echo "instructions of one plan"
+    printf '%-10s %15s %15s %7s\n' input first second ratio
+    for name in $inputs; do
+        count_input "$name" "$@"
+    done
+}
+
+cargo build --quiet --release --offline --manifest-path "$here/Cargo.toml" --target-dir "$here/target"
+work=$(mktemp -d)
+trap 'rm -rf "$work"' EXIT
+status=0
+time_streams
+echo
+install_valgrind
+count_inputs "$@"
 exit $status

@@ -1,18 +1,26 @@
-// What the test programs share: a stream of cases, each after its length in four bytes (high byte first), and printing.
-ghost use Prim.Native.Nat.{_+_, _*_, _<_};
+// What the test programs share: the frames of a stream, printing, and comparisons.
+ghost use Prim.Native.Nat.{_+_, _*_};
 ghost use mathlib.Core.Path.{_≡_};
 ghost use Rattle.cases.specs.Next.{FitsIn};
-use book::Refusal;
+
+mod print;
+mod same;
+
 use libc::STDIN_FILENO;
-use libc::STDOUT_FILENO;
-pub use lists::wide;
+use lists::wide;
+pub use print::number;
+pub use print::refusal;
+pub use print::text;
+pub use print::write_walk;
+pub use same::same_answer;
 
 pub enum Next {
     Case(usize),
     End,
 }
 
-// Reads the next case into the front of the buffer. A case that is cut off, or longer than the buffer, ends the stream.
+// Reads the next frame of a stream into the front of the buffer: its length in four bytes (high byte first), and that many bytes.
+// A frame that is cut off, or longer than the buffer, ends the stream.
 pub fn next_case(buffer: &mut [u8]) -> Next
     ensures { λ r. ⌜ FitsIn r (now (buffer .exit)) ⌝ }
 {
@@ -43,41 +51,4 @@ pub fn long(a: u8, b: u8, c: u8, d: u8) -> usize
     ensures { λ r. ⌜ r ≡ ((a * 256 + b) * 256 + c) * 256 + d ⌝ }
 {
     ((wide(a) * 256 + wide(b)) * 256 + wide(c)) * 256 + wide(d)
-}
-
-pub fn text(s: &[u8]) {
-    io::write_all(STDOUT_FILENO, s);
-}
-
-// A blank and a number.
-pub fn number(n: usize) {
-    text(b" ");
-    io::print_decimal(STDOUT_FILENO, n as u64);
-}
-
-// The line of a refusal.
-pub fn refusal(r: Refusal) {
-    let told = book::number_of(r);
-    text(b"REFUSED");
-    number(told.number);
-    if told.placed {
-        text(b" AT");
-        number(told.place);
-    }
-    text(b"\n");
-}
-
-// The vertices of a walk, one blank between: the first n bytes of its area.
-pub fn write_walk(area: &[u8], n: usize) {
-    let mut i = 0;
-    while i < area.len() {
-        if i < n {
-            if 0 < i {
-                text(b" ");
-            }
-            io::print_decimal(STDOUT_FILENO, wide(area[i]) as u64);
-        }
-        i += 1;
-    }
-    text(b"\n");
 }

@@ -2,6 +2,8 @@
 // pair and bad ends.
 ghost use Rattle.planner.specs.Planning.{PlanningOf};
 ghost use Rattle.listed.specs.Listing.{listing};
+ghost use Rattle.listed.specs.Examples.{arcsA};
+ghost use mathlib.Core.Path.{_≡_};
 use cases::number;
 use cases::text;
 use cases::write_walk;
@@ -10,11 +12,15 @@ use limits::LONGEST;
 use listed::Arc;
 use planner::Outcome;
 
-fn arc(tail: u8, head: u8, weight: u32) -> Arc {
+fn arc(tail: u8, head: u8, weight: u32) -> Arc
+    ensures { λ r. ⌜ r ≡ record { tail = tail; head = head; weight = weight } ⌝ }
+{
     Arc { tail, head, weight }
 }
 
-fn arcs_a() -> [Arc; 6] {
+fn arcs_a() -> [Arc; 6]
+    ensures { λ r. ⌜ r ≡ arcsA ⌝ }
+{
     [
         arc(0, 1, 100),
         arc(1, 2, 100),

@@ -4,5 +4,5 @@ use libc::STDIN_FILENO;
 fn main() {
     let mut space = io::large_buffer();
     let n = io::read_full(STDIN_FILENO, &mut space);
-    replaying::replay_case(&space[..n]);
+    kinds::replay_case(&space[..n]);
 }

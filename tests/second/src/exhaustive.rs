@@ -24,7 +24,10 @@ fn followers(litres: u64, lineup: &[u8], changeovers: &Changeovers, runs: &[Run]
     let last = lineup[lineup.len() - 1];
     let mut list = Vec::new();
     for grade in 0..changeovers.grades() as u8 {
-        let Some(step) = changeovers.litres(last, grade) else { continue };
+        let step = match changeovers.litres(last, grade) {
+            Some(step) => step,
+            None => continue,
+        };
         let mut longer = lineup.to_vec();
         longer.push(grade);
         if !runs.iter().any(|run| longer.ends_with(run)) {
@@ -60,7 +63,7 @@ pub fn best_of_all(
         }
         if lineup[lineup.len() - 1] == end {
             let rank = (litres, lineup.len(), lineup);
-            if best.as_ref().is_none_or(|so_far| rank < *so_far) {
+            if best.as_ref().map_or(true, |so_far| rank < *so_far) {
                 best = Some(rank);
             }
         }

@@ -234,9 +234,11 @@ fn grown_runs(
     let mut tries = 0;
     while runs.len() < count && tries < 3 * count {
         tries += 1;
-        let Some(best) = plan::best(&changeovers, &runs, start, end) else { break };
-        let Some(run) = part_of(random, &best.lineup) else { break };
-        runs.push(run);
+        let best = plan::best(&changeovers, &runs, start, end);
+        match best.and_then(|best| part_of(random, &best.lineup)) {
+            Some(run) => runs.push(run),
+            None => break,
+        }
         if plan::best(&changeovers, &runs, start, end).is_none() && random.chance(95) {
             runs.pop();
         }
@@ -258,9 +260,7 @@ pub fn part_of(random: &mut Random, lineup: &[u8]) -> Option<Run> {
 }
 
 pub fn table(grades: usize, items: &[Changeover]) -> Changeovers {
-    let Ok(mut changeovers) = Changeovers::new(grades) else {
-        unreachable!("generated counts of grades are 1 to 64");
-    };
+    let mut changeovers = Changeovers::new(grades).expect("generated counts of grades are 1 to 64");
     for &item in items {
         let added = changeovers.add(item);
         assert!(added.is_ok(), "generated changeovers keep the rules");

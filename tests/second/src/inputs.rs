@@ -277,9 +277,7 @@ fn random_lab(random: &mut Random, trials: &Trials) -> Lab {
 }
 
 fn any_runs(random: &mut Random, trials: &Trials) -> Vec<Run> {
-    let Ok(book) = book::read(trials.book) else {
-        unreachable!("trials began with this book");
-    };
+    let book = book::read(trials.book).expect("trials began with this book");
     let count = random.between(0, 12);
     generate::random_runs(random, book.grades(), &book.changeovers.list(), count)
 }
@@ -290,7 +288,10 @@ fn runs_in_the_way(random: &mut Random, trials: &Trials) -> Vec<Run> {
     let mut trials = trials.clone();
     let mut runs = Vec::new();
     for _ in 0..random.between(1, 25) {
-        let Some(run) = generate::part_of(random, trials.lineup()) else { break };
+        let run = match generate::part_of(random, trials.lineup()) {
+            Some(run) => run,
+            None => break,
+        };
         let kept = trials.clone();
         let _ = trials.try_report(Report::Failed(&run));
         if trials.record.stage != STANDS && random.chance(85) {

@@ -1,6 +1,5 @@
-//! The kinds of programs, by the names that commands use.
+//! The kinds of cases, by the names that commands use and by the bytes of frames.
 
-use crate::frames;
 use crate::programs;
 
 #[derive(Clone, Copy, Debug, PartialEq, Eq)]
@@ -24,9 +23,23 @@ impl Kind {
         }
     }
 
-    /// The name of the program that takes a framed stream of cases.
+    /// The name of a framed stream of such cases.
     pub fn stream_name(self) -> String {
         format!("{}s", self.name())
+    }
+
+    /// The first byte of a frame with such a case.
+    pub fn byte(self) -> u8 {
+        match self {
+            Kind::ReadBook => 0,
+            Kind::CheckLineup => 1,
+            Kind::Plan => 2,
+            Kind::Replay => 3,
+        }
+    }
+
+    pub fn of_byte(byte: u8) -> Option<Kind> {
+        KINDS.into_iter().find(|kind| kind.byte() == byte)
     }
 
     pub fn named(name: &str) -> Option<Kind> {
@@ -45,10 +58,5 @@ impl Kind {
             Kind::Replay => programs::replay(case),
             Kind::Plan => programs::plan(case),
         }
-    }
-
-    /// What the program prints for a framed stream of cases.
-    pub fn run_stream(self, stream: &[u8]) -> String {
-        frames::split(stream).into_iter().map(|case| self.run(case)).collect()
     }
 }

@@ -1,14 +1,17 @@
-//! `second KIND` answers one case, `second KINDs` a framed stream of cases,
-//! `second input NAME SEED` prints an input of the generator.
+//! `second KIND` answers one case, `second frames` a framed stream of cases,
+//! `second input NAME SEED` prints an input of the generator, and
+//! `second inputs NAME SEED COUNT` a framed stream of such inputs.
 
+use second::frames;
 use second::kinds::Kind;
 use second::samples;
 use std::io::{self, Read, Write};
 use std::process::ExitCode;
 
-const USAGE: &str = "usage: second plan|replay|check_lineup|read_book      one case
-       second plans|replays|check_lineups|read_books  a framed stream of cases
-       second input NAME SEED                         an input for `plan`
+const USAGE: &str = "usage: second plan|replay|check_lineup|read_book  one case
+       second frames                   a framed stream of cases
+       second input NAME SEED          an input for `plan`
+       second inputs NAME SEED COUNT   a framed stream of such inputs, of COUNT seeds
 NAME is typical, largest, chain, upward, downward or winding.";
 
 fn main() -> ExitCode {
@@ -23,18 +26,25 @@ fn main() -> ExitCode {
 
 fn answer(words: &[&str]) -> Option<io::Result<Vec<u8>>> {
     match *words {
-        [name] => answer_program(name),
+        ["frames"] => Some(input().map(|stream| frames::run(&stream).into_bytes())),
+        [name] => answer_case(Kind::named(name)?),
         ["input", name, seed] => samples::speed_input(name, seed.parse().ok()?).map(Ok),
+        ["inputs", name, seed, count] => {
+            speed_stream(name, seed.parse().ok()?, count.parse().ok()?).map(Ok)
+        }
         _ => None,
     }
 }
 
-fn answer_program(name: &str) -> Option<io::Result<Vec<u8>>> {
-    if let Some(kind) = Kind::named(name) {
-        return Some(input().map(|case| kind.run(&case).into_bytes()));
-    }
-    let kind = Kind::stream_named(name)?;
-    Some(input().map(|stream| kind.run_stream(&stream).into_bytes()))
+fn answer_case(kind: Kind) -> Option<io::Result<Vec<u8>>> {
+    Some(input().map(|case| kind.run(&case).into_bytes()))
+}
+
+/// The inputs of a seed and of those after it.
+fn speed_stream(name: &str, seed: u64, count: u64) -> Option<Vec<u8>> {
+    let inputs: Option<Vec<_>> =
+        (0..count).map(|index| samples::speed_input(name, seed.wrapping_add(index))).collect();
+    Some(frames::join(Kind::Plan, &inputs?))
 }
 
 fn input() -> io::Result<Vec<u8>> {

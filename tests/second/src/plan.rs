@@ -156,11 +156,10 @@ fn walk(
             // The first test keeps the addition in bounds.
             costs[next] < costs[state]
                 && step_cost(automaton, changeovers, state, grade)
-                    .is_some_and(|step| costs[next] + step == costs[state])
+                    .map_or(false, |step| costs[next] + step == costs[state])
         };
-        let Some(grade) = (0..automaton.grades as u8).find(usable) else {
-            unreachable!("a state with a cost has a step on a least way");
-        };
+        let grade = (0..automaton.grades as u8).find(usable);
+        let grade = grade.expect("a state with a cost has a step on a least way");
         state = automaton.step(state, grade);
         lineup.push(grade);
     }

@@ -93,11 +93,14 @@ pub fn report_failed(
 impl Record {
     /// The record with a new plan, which it writes to the area, or with none.
     fn with_plan(self, plan: Option<Plan>, lineup_area: &mut [u8]) -> Record {
-        let Some(plan) = plan else {
-            return Record { stage: NONE, litres: 0, length: 0, ..self };
-        };
-        plan::write_lineup(&plan, lineup_area);
-        Record { stage: STANDS, litres: plan.litres, length: plan.lineup.len() as u64, ..self }
+        match plan {
+            None => Record { stage: NONE, litres: 0, length: 0, ..self },
+            Some(plan) => {
+                plan::write_lineup(&plan, lineup_area);
+                let length = plan.lineup.len() as u64;
+                Record { stage: STANDS, litres: plan.litres, length, ..self }
+            }
+        }
     }
 
     pub fn trials(&self) -> u64 {

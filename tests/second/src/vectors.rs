@@ -1,7 +1,8 @@
-//! The stored vectors of a kind: the chosen cases, then random ones.
+//! The stored vectors: of each kind the chosen cases, then random ones.
 
+use crate::frames;
 use crate::inputs;
-use crate::kinds::Kind;
+use crate::kinds::{Kind, KINDS};
 use crate::programs::MOST_INPUT;
 use crate::samples;
 
@@ -22,19 +23,35 @@ pub fn cases(kind: Kind, seed: u64) -> Vec<Vec<u8>> {
 }
 
 /// A stream holds no case longer than `plan` reads, so that a program can take
-/// each case in a buffer of that size.
+/// each frame in a buffer of one byte more.
 pub fn fit_for_stream(mut cases: Vec<Vec<u8>>) -> Vec<Vec<u8>> {
     cases.retain(|case| case.len() <= MOST_INPUT);
     cases
 }
 
+/// The cases of every kind, with frames of no kind between two kinds.
+pub fn stream(seed: u64) -> Vec<u8> {
+    let mut stream = Vec::new();
+    for kind in KINDS {
+        stream.extend(frames::join(kind, &cases(kind, seed)));
+        stream.extend(NO_KIND.iter().flat_map(|bytes| frames::framed(bytes)));
+    }
+    stream
+}
+
+const NO_KIND: [&[u8]; 4] = [&[], &[4], &[255], &[4, 1, 0, 1, 4]];
+
 /// What stands beside the vectors: their seed and the command that made them.
-pub fn note(kind: Kind, seed: u64, folder: &str, count: usize) -> String {
+pub fn note(seed: u64, folder: &str) -> String {
+    let counts: Vec<String> = KINDS
+        .iter()
+        .map(|&kind| format!("{} of `{}`", cases(kind, seed).len(), kind.name()))
+        .collect();
     format!(
-        "The files stdin and stdout here hold {count} cases of `{name}`: stdin is a framed stream\n\
-         (see tests/second/README.md), stdout what the cases print, one after the other.\n\
+        "The file stdin here is a framed stream (see tests/second/README.md) of cases, and some frames of no kind:\n\
+         {counts}. stdout is what they print, one after the other.\n\
          They come from the second planner with seed {seed}; from the repository's top folder:\n\
-         cargo run --release --offline --manifest-path tests/second/Cargo.toml --bin vectors -- {name} {seed} {folder}\n",
-        name = kind.name(),
+         cargo run --release --offline --manifest-path tests/second/Cargo.toml --bin vectors -- {seed} {folder}\n",
+        counts = counts.join(", "),
     )
 }

@@ -21,10 +21,13 @@ struct Tally {
 
 impl Tally {
     fn add(&mut self, plan: &Option<Plan>) {
-        let Some(plan) = plan else {
-            self.none += 1;
-            return;
-        };
+        match plan {
+            Some(plan) => self.add_plan(plan),
+            None => self.none += 1,
+        }
+    }
+
+    fn add_plan(&mut self, plan: &Plan) {
         self.plans += 1;
         let mut grades = plan.lineup.clone();
         grades.sort_unstable();
@@ -145,7 +148,10 @@ fn lists_in_the_way(random: &mut Random, changeovers: &Changeovers) -> Vec<Run> 
     let mut runs: Vec<Run> =
         (0..random.below(3)).map(|_| any_list(random, changeovers.grades())).collect();
     for _ in 0..random.between(1, 12) {
-        let Some(plan) = plan::best(changeovers, &runs, 0, end) else { break };
+        let plan = match plan::best(changeovers, &runs, 0, end) {
+            Some(plan) => plan,
+            None => break,
+        };
         let length = random.between(2, 8).min(plan.lineup.len());
         let place = random.below(plan.lineup.len() - length + 1);
         let list = plan.lineup[place..place + length].to_vec();

@@ -35,10 +35,19 @@ fn second_answers_one_case_or_a_stream() {
     let listing = inputs::plan_input(3, 0, 3, &samples::book_a().bytes());
     let answer = "LITRES 450 CHANGES 5\n0 1 2 1 2 3\n";
     assert_eq!(text(&run(SECOND, &["plan"], &listing)), answer);
-    let stream = frames::join(&[listing.clone(), vec![], listing]);
+    let stream = [
+        frames::join(Kind::Plan, &[listing.clone(), vec![], listing]),
+        frames::framed(&[4]),
+        frames::framed(&[]),
+        frames::frame(Kind::ReadBook, &samples::book_a().bytes()[..4]),
+    ]
+    .concat();
     assert_eq!(
-        text(&run(SECOND, &["plans"], &stream)),
-        format!("{answer}REFUSED 1 AT 0\n{answer}")
+        text(&run(SECOND, &["frames"], &stream)),
+        format!(
+            "{answer}REFUSED 1 AT 0\n{answer}UNKNOWN KIND\nNO KIND\n\
+             GRADES 4 CHANGEOVERS 0 SHEETS 0 RUNS 0\n"
+        )
     );
     for kind in KINDS {
         let case = inputs::case(kind, 1, 1);
@@ -48,6 +57,11 @@ fn second_answers_one_case_or_a_stream() {
         run(SECOND, &["input", "chain", "1"], &[]).stdout,
         samples::speed_input("chain", 1).unwrap()
     );
+    let typical = [1, 2].map(|seed| samples::speed_input("typical", seed).unwrap());
+    assert_eq!(
+        run(SECOND, &["inputs", "typical", "1", "2"], &[]).stdout,
+        frames::join(Kind::Plan, &typical)
+    );
 }
 
 #[test]
@@ -55,11 +69,14 @@ fn wrong_words_fail() {
     for (program, words) in [
         (SECOND, &[][..]),
         (SECOND, &["other"]),
+        (SECOND, &["plans"]),
         (SECOND, &["input", "other", "1"]),
+        (SECOND, &["inputs", "other", "1", "2"]),
         (COMPARE, &["plan", "5", "1"]),
         (COMPARE, &["plan", "5", "1", "--"]),
         (COMPARE, &["other", "5", "1", "--", SECOND, "plan"]),
-        (VECTORS, &["plans", "1", "/tmp"]),
+        (VECTORS, &["1"]),
+        (VECTORS, &["plan", "/tmp"]),
     ] {
         let output = run(program, words, &[]);
         assert!(!output.status.success() && output.stdout.is_empty(), "{words:?}");
@@ -70,13 +87,13 @@ fn wrong_words_fail() {
 fn vectors_writes_its_three_files() {
     let folder = std::env::temp_dir().join(format!("second-vectors-{}", std::process::id()));
     let name = folder.to_str().unwrap();
-    assert!(run(VECTORS, &["check_lineup", "4", name], &[]).status.success());
-    let stream = frames::join(&vectors::cases(Kind::CheckLineup, 4));
+    assert!(run(VECTORS, &["4", name], &[]).status.success());
+    let stream = vectors::stream(4);
     assert_eq!(fs::read(folder.join("stdin")).unwrap(), stream);
     let printed = fs::read_to_string(folder.join("stdout")).unwrap();
-    assert_eq!(printed, Kind::CheckLineup.run_stream(&stream));
+    assert_eq!(printed, frames::run(&stream));
     let note = fs::read_to_string(folder.join("VECTORS.txt")).unwrap();
-    assert!(note.ends_with(&format!("--bin vectors -- check_lineup 4 {name}\n")), "{note}");
+    assert!(note.ends_with(&format!("--bin vectors -- 4 {name}\n")), "{note}");
     fs::remove_dir_all(folder).unwrap();
 }
 
@@ -84,8 +101,8 @@ fn vectors_writes_its_three_files() {
 fn compare_finds_no_difference_from_itself() {
     for kind in KINDS {
         let stream = kind.stream_name();
-        for (name, count) in [(kind.name(), "12"), (stream.as_str(), "600")] {
-            let output = run(COMPARE, &[name, count, "2", "--", SECOND, name], &[]);
+        for (name, count, word) in [(kind.name(), "12", kind.name()), (&stream, "600", "frames")] {
+            let output = run(COMPARE, &[name, count, "2", "--", SECOND, word], &[]);
             assert!(output.status.success());
             assert_eq!(text(&output), format!("{name}: {count} inputs of seed 2, 0 different\n"));
         }
@@ -104,7 +121,7 @@ fn compare_reports_each_difference() {
     }
     assert_eq!(lines[3], "plan: 3 inputs of seed 2, 3 different");
     // A stream that differs is gone through case by case.
-    let output = run(COMPARE, &["plans", "3", "2", "--", SECOND, "replays"], &[]);
+    let output = run(COMPARE, &["plans", "3", "2", "--", SECOND, "plan"], &[]);
     assert!(!output.status.success());
     assert!(text(&output).contains("DIFFERENT plans seed 2 index 1: "));
     // A program that fails, or isn't there, differs.
@@ -116,9 +133,30 @@ fn compare_reports_each_difference() {
     }
 }
 
+/// A program that never ends is ended, and is the last one to be run.
+#[test]
+fn compare_ends_a_program_that_hangs() {
+    for (kind, place) in [("plan", "index 0"), ("plans", "indexes 0 to 2 in one stream")] {
+        let words = ["--limit", "1", kind, "3", "2", "--", "sleep", "1000"];
+        let output = run(COMPARE, &words, &[]);
+        assert!(!output.status.success());
+        let hangs = "hangs: still running after 1 s, and ended";
+        assert_eq!(
+            text(&output),
+            format!(
+                "DIFFERENT {kind} seed 2 {place}: {hangs}\n\
+                 {kind}: 3 inputs of seed 2, 1 different\n"
+            )
+        );
+    }
+}
+
 #[test]
 fn compare_shows_the_input_of_a_case() {
     let case = inputs::case(Kind::Plan, 6, 9);
     assert_eq!(run(COMPARE, &["--show", "plan", "6", "9"], &[]).stdout, case);
-    assert_eq!(run(COMPARE, &["--show", "plans", "6", "9"], &[]).stdout, frames::frame(&case));
+    assert_eq!(
+        run(COMPARE, &["--show", "plans", "6", "9"], &[]).stdout,
+        frames::frame(Kind::Plan, &case)
+    );
 }

@@ -260,7 +260,10 @@ fn all_forms_of_planning_agree() {
         }
         let marks = u16::from_be_bytes([input[0], input[1]]);
         let (start, end, bytes) = (input[2], input[3], &input[4..]);
-        let Ok(book) = second::book::read(bytes) else { continue };
+        let book = match second::book::read(bytes) {
+            Ok(book) => book,
+            Err(_) => continue,
+        };
         let mut runs_area = vec![0x55; RUNS_AREA];
         let count = binding::bind(bytes, marks, &mut runs_area).unwrap();
         let known = Known { area: &runs_area, count };

@@ -1,22 +1,28 @@
 //! `compare KIND N SEED -- COMMAND WORDS...` runs a program on N random inputs
-//! of a seed and reports each difference from this package's answers.
+//! of a seed and reports each difference from this package's answers. A run
+//! that takes too long is ended, and ends the comparison.
 //! `compare --show KIND SEED INDEX` prints one of these inputs.
 
 use second::frames;
 use second::inputs;
 use second::kinds::Kind;
 use second::programs::MOST_INPUT;
-use std::io::{self, Write};
-use std::process::{Child, Command, ExitCode, Output, Stdio};
-use std::thread;
+use second::vectors;
+use std::io::{self, Read, Write};
+use std::process::{Child, Command, ExitCode, ExitStatus, Stdio};
+use std::thread::{self, JoinHandle};
+use std::time::{Duration, Instant};
 
-const USAGE: &str = "usage: compare KIND N SEED -- COMMAND WORDS...
+const USAGE: &str = "usage: compare [--limit SECONDS] KIND N SEED -- COMMAND WORDS...
        compare --show KIND SEED INDEX
 KIND is plan, replay, check_lineup or read_book: one process for each input;
 or plans, replays, check_lineups or read_books: framed streams of inputs.";
 
 /// How many cases a framed stream holds at most.
 const BATCH: u64 = 250;
+
+/// The seconds that a run may take, if no limit is given.
+const LIMIT: u64 = 120;
 
 /// How much of an output a report shows.
 const SHOWN: usize = 300;
@@ -27,10 +33,16 @@ fn main() -> ExitCode {
     if let Some(code) = show(&words) {
         return code;
     }
-    let Some(task) = Task::from_words(&words) else {
-        eprintln!("{USAGE}");
-        return ExitCode::FAILURE;
-    };
+    match Task::from_words(&words) {
+        Some(task) => compare(&task),
+        None => {
+            eprintln!("{USAGE}");
+            ExitCode::FAILURE
+        }
+    }
+}
+
+fn compare(task: &Task) -> ExitCode {
     let different =
         if task.framed { task.compare_streams() } else { task.compare_cases(0, task.count) };
     println!("{}: {} inputs of seed {}, {different} different", task.name, task.count, task.seed);
@@ -43,13 +55,15 @@ fn main() -> ExitCode {
 
 /// Prints the input that a report names, as the program got it.
 fn show(words: &[&str]) -> Option<ExitCode> {
-    let ["--show", kind, seed, index] = *words else { return None };
-    let (kind, framed) = kind_named(kind)?;
-    let case = inputs::case(kind, seed.parse().ok()?, index.parse().ok()?);
-    let input = if framed { frames::frame(&case) } else { case };
-    match io::stdout().write_all(&input) {
-        Ok(()) => Some(ExitCode::SUCCESS),
-        Err(_) => Some(ExitCode::FAILURE),
+    match *words {
+        ["--show", kind, seed, index] => {
+            let (kind, framed) = kind_named(kind)?;
+            let case = inputs::case(kind, seed.parse().ok()?, index.parse().ok()?);
+            let input = if framed { frames::frame(kind, &case) } else { case };
+            let written = io::stdout().write_all(&input).is_ok();
+            Some(if written { ExitCode::SUCCESS } else { ExitCode::FAILURE })
+        }
+        _ => None,
     }
 }
 
@@ -64,33 +78,57 @@ struct Task<'a> {
     framed: bool,
     count: u64,
     seed: u64,
+    limit: Duration,
     command: &'a [&'a str],
+}
+
+/// What is wrong with an answer.
+struct Difference {
+    text: String,
+    hangs: bool,
 }
 
 impl<'a> Task<'a> {
     fn from_words(words: &'a [&'a str]) -> Option<Task<'a>> {
-        let [name, count, seed, "--", command @ ..] = words else { return None };
-        let (kind, framed) = kind_named(name)?;
-        let (count, seed) = (count.parse().ok()?, seed.parse().ok()?);
-        (!command.is_empty()).then_some(Task { name, kind, framed, count, seed, command })
+        let (limit, words) = match words {
+            ["--limit", seconds, rest @ ..] => (seconds.parse().ok()?, rest),
+            _ => (LIMIT, words),
+        };
+        match words {
+            [name, count, seed, "--", command @ ..] if !command.is_empty() => {
+                let (kind, framed) = kind_named(name)?;
+                let (count, seed) = (count.parse().ok()?, seed.parse().ok()?);
+                let limit = Duration::from_secs(limit);
+                Some(Task { name, kind, framed, count, seed, limit, command })
+            }
+            _ => None,
+        }
     }
 
-    /// Compares one process a case, and gives the number of differences.
+    /// Compares one process a case, up to the first that hangs, and gives the
+    /// number of differences.
     fn compare_cases(&self, from: u64, to: u64) -> u64 {
-        (from..to).filter(|&index| !self.same(index)).count() as u64
+        let mut different = 0;
+        for index in from..to {
+            if let Some(Difference { text, hangs }) = self.case_difference(index) {
+                println!("DIFFERENT {} seed {} index {index}: {text}", self.name, self.seed);
+                different += 1;
+                if hangs {
+                    break;
+                }
+            }
+        }
+        different
     }
 
-    fn same(&self, index: u64) -> bool {
+    fn case_difference(&self, index: u64) -> Option<Difference> {
         let case = inputs::case(self.kind, self.seed, index);
         if self.framed && case.len() > MOST_INPUT {
-            return true;
+            return None;
         }
-        let input = if self.framed { frames::frame(&case) } else { case.clone() };
-        let difference = difference(self.command, &input, &self.kind.run(&case));
-        if let Some(text) = &difference {
-            println!("DIFFERENT {} seed {} index {index}: {text}", self.name, self.seed);
-        }
-        difference.is_none()
+        let expected = self.kind.run(&case);
+        let input = if self.framed { frames::frame(self.kind, &case) } else { case };
+        self.difference(&input, &expected)
     }
 
     /// Compares whole streams; one that differs is gone through case by case.
@@ -98,8 +136,8 @@ impl<'a> Task<'a> {
         let mut different = 0;
         for from in (0..self.count).step_by(BATCH as usize) {
             let to = self.count.min(from + BATCH);
-            if let Some(text) = self.stream_difference(from, to) {
-                let single = self.compare_cases(from, to);
+            if let Some(Difference { text, hangs }) = self.stream_difference(from, to) {
+                let single = if hangs { 0 } else { self.compare_cases(from, to) };
                 if single == 0 {
                     let last = to - 1;
                     println!(
@@ -108,28 +146,37 @@ impl<'a> Task<'a> {
                     );
                 }
                 different += single.max(1);
+                if hangs {
+                    break;
+                }
             }
         }
         different
     }
 
-    fn stream_difference(&self, from: u64, to: u64) -> Option<String> {
+    fn stream_difference(&self, from: u64, to: u64) -> Option<Difference> {
         let cases: Vec<Vec<u8>> =
             (from..to).map(|index| inputs::case(self.kind, self.seed, index)).collect();
-        let stream = frames::join(&second::vectors::fit_for_stream(cases));
-        difference(self.command, &stream, &self.kind.run_stream(&stream))
+        let stream = frames::join(self.kind, &vectors::fit_for_stream(cases));
+        self.difference(&stream, &frames::run(&stream))
     }
-}
 
-/// What is wrong with the command's answer to an input, if anything.
-fn difference(command: &[&str], input: &[u8], expected: &str) -> Option<String> {
-    match run(command, input) {
-        Err(error) => Some(format!("cannot run {}: {error}", command[0])),
-        Ok(output) if !output.status.success() => Some(format!("ended with {}", output.status)),
-        Ok(output) if output.stdout != expected.as_bytes() => {
-            Some(first_difference(expected, &String::from_utf8_lossy(&output.stdout)))
-        }
-        Ok(_) => None,
+    /// What is wrong with the command's answer to an input, if anything.
+    fn difference(&self, input: &[u8], expected: &str) -> Option<Difference> {
+        let text = match run(self.command, input, self.limit) {
+            Ok(Run::Ended(status, _)) if !status.success() => format!("ended with {status}"),
+            Ok(Run::Ended(_, output)) if output == expected.as_bytes() => return None,
+            Ok(Run::Ended(_, output)) => {
+                first_difference(expected, &String::from_utf8_lossy(&output))
+            }
+            Ok(Run::Hangs) => {
+                let seconds = self.limit.as_secs();
+                let text = format!("hangs: still running after {seconds} s, and ended");
+                return Some(Difference { text, hangs: true });
+            }
+            Err(error) => format!("cannot run {}: {error}", self.command[0]),
+        };
+        Some(Difference { text, hangs: false })
     }
 }
 
@@ -150,26 +197,60 @@ fn shown(text: &str) -> String {
     format!("{part:?}{dots}")
 }
 
-fn run(command: &[&str], input: &[u8]) -> io::Result<Output> {
+enum Run {
+    Ended(ExitStatus, Vec<u8>),
+    Hangs,
+}
+
+fn run(command: &[&str], input: &[u8], limit: Duration) -> io::Result<Run> {
     let mut child = Command::new(command[0])
         .args(&command[1..])
         .stdin(Stdio::piped())
         .stdout(Stdio::piped())
         .stderr(Stdio::null())
         .spawn()?;
-    let feeder = feed(&mut child, input.to_vec());
-    let output = child.wait_with_output();
-    if let Some(feeder) = feeder {
-        let _ = feeder.join();
+    feed(&mut child, input.to_vec());
+    let output = drain(&mut child);
+    match wait(&mut child, limit)? {
+        None => Ok(Run::Hangs),
+        Some(status) => {
+            let output = output.and_then(|reader| reader.join().ok()).unwrap_or_default();
+            Ok(Run::Ended(status, output))
+        }
     }
-    output
 }
 
 /// Writes the input beside the reading of the output, so that neither waits
 /// for the other. A child that closes its input early is not at fault.
-fn feed(child: &mut Child, input: Vec<u8>) -> Option<thread::JoinHandle<()>> {
-    let mut stdin = child.stdin.take()?;
+fn feed(child: &mut Child, input: Vec<u8>) {
+    if let Some(mut stdin) = child.stdin.take() {
+        thread::spawn(move || {
+            let _ = stdin.write_all(&input);
+        });
+    }
+}
+
+fn drain(child: &mut Child) -> Option<JoinHandle<Vec<u8>>> {
+    let mut stdout = child.stdout.take()?;
     Some(thread::spawn(move || {
-        let _ = stdin.write_all(&input);
+        let mut output = Vec::new();
+        let _ = stdout.read_to_end(&mut output);
+        output
     }))
+}
+
+/// The child's status; none if it had to be ended.
+fn wait(child: &mut Child, limit: Duration) -> io::Result<Option<ExitStatus>> {
+    let start = Instant::now();
+    loop {
+        if let Some(status) = child.try_wait()? {
+            return Ok(Some(status));
+        }
+        if start.elapsed() >= limit {
+            child.kill()?;
+            child.wait()?;
+            return Ok(None);
+        }
+        thread::sleep(Duration::from_millis(1));
+    }
 }

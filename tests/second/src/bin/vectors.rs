@@ -1,42 +1,44 @@
-//! `vectors KIND SEED OUTDIR` writes OUTDIR/stdin, a framed stream of cases,
-//! OUTDIR/stdout, what they print, and OUTDIR/VECTORS.txt, how they were made.
+//! `vectors SEED OUTDIR` writes OUTDIR/stdin, a framed stream of cases of every
+//! kind, OUTDIR/stdout, what they print, and OUTDIR/VECTORS.txt, how they were
+//! made.
 
 use second::frames;
-use second::kinds::Kind;
 use second::vectors;
 use std::fs;
 use std::io;
 use std::path::Path;
 use std::process::ExitCode;
 
-const USAGE: &str = "usage: vectors read_book|check_lineup|replay|plan SEED OUTDIR";
+const USAGE: &str = "usage: vectors SEED OUTDIR";
 
 fn main() -> ExitCode {
     let words: Vec<String> = std::env::args().skip(1).collect();
-    let Some((kind, seed, folder)) = arguments(&words) else {
-        eprintln!("{USAGE}");
-        return ExitCode::FAILURE;
-    };
-    match write(kind, seed, folder) {
-        Ok(()) => ExitCode::SUCCESS,
-        Err(error) => {
-            eprintln!("cannot write to {folder}: {error}");
-            ExitCode::FAILURE
-        }
+    match arguments(&words) {
+        None => fail(USAGE),
+        Some((seed, folder)) => match write(seed, folder) {
+            Ok(()) => ExitCode::SUCCESS,
+            Err(error) => fail(&format!("cannot write to {folder}: {error}")),
+        },
     }
 }
 
-fn arguments(words: &[String]) -> Option<(Kind, u64, &str)> {
-    let [kind, seed, folder] = words else { return None };
-    Some((Kind::named(kind)?, seed.parse().ok()?, folder))
+fn arguments(words: &[String]) -> Option<(u64, &str)> {
+    match words {
+        [seed, folder] => Some((seed.parse().ok()?, folder)),
+        _ => None,
+    }
 }
 
-fn write(kind: Kind, seed: u64, folder: &str) -> io::Result<()> {
-    let cases = vectors::cases(kind, seed);
-    let stream = frames::join(&cases);
+fn fail(message: &str) -> ExitCode {
+    eprintln!("{message}");
+    ExitCode::FAILURE
+}
+
+fn write(seed: u64, folder: &str) -> io::Result<()> {
+    let stream = vectors::stream(seed);
     let path = Path::new(folder);
     fs::create_dir_all(path)?;
-    fs::write(path.join("stdout"), kind.run_stream(&stream))?;
+    fs::write(path.join("stdout"), frames::run(&stream))?;
     fs::write(path.join("stdin"), stream)?;
-    fs::write(path.join("VECTORS.txt"), vectors::note(kind, seed, folder, cases.len()))
+    fs::write(path.join("VECTORS.txt"), vectors::note(seed, folder))
 }

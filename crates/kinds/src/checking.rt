@@ -1,0 +1,46 @@
+// The case of a check: the flags and the walk's length in two bytes each (high byte first), the walk, and the book.
+use book::Refusal;
+use cases::number;
+use cases::refusal;
+use cases::text;
+use cases::word;
+use limits::AREA;
+use lists::wide;
+use rules::Bound;
+use rules::Checked;
+
+pub fn check_case(input: &[u8]) {
+    let size = input.len();
+    if size < 4 {
+        refusal(Refusal::Truncated(0));
+        return;
+    }
+    let flags = word(input[0], input[1]);
+    let length = wide(input[2]) * 256 + wide(input[3]);
+    if size - 4 < length {
+        refusal(Refusal::Truncated(0));
+        return;
+    }
+    let end = 4 + length;
+    let walk = &input[4..end];
+    let bytes = &input[end..];
+    let mut area = [0u8; AREA];
+    match rules::bind(bytes, flags, &mut area) {
+        Bound::Known(count) => print(rules::check(bytes, &area, count, walk)),
+        Bound::Refused(r) => refusal(r),
+    }
+}
+
+fn print(answer: Checked) {
+    match answer {
+        Checked::Clear => text(b"CLEAR\n"),
+        Checked::Occurs(place, length) => {
+            text(b"RUN AT");
+            number(place);
+            text(b" LENGTH");
+            number(length);
+            text(b"\n");
+        }
+        Checked::Refused(r) => refusal(r),
+    }
+}
