@@ -6,11 +6,11 @@ use lib.Dec.{ltb}
 use lib.ListN.{take}
 use Rattle.walks.specs.Graph.{Graph}
 use Rattle.walks.specs.Walk.{weightOf, hops}
-use Rattle.book.specs.declared.Numbered.{Numbered}
+use Rattle.book.specs.declared.Number.{Number}
 use Rattle.book.specs.declared.Refusal.{Refusal}
-use Rattle.book.specs.Refusal.{told}
-use Rattle.planner.specs.declared.Outcome.{Outcome}
-use Rattle.planner.specs.declared.Outcome.the-variants.{Walk, Nothing, Refused}
+use Rattle.book.specs.Refusal.{numberOf}
+use Rattle.search.specs.declared.Found.{Found}
+use Rattle.search.specs.declared.Found.the-variants.{Walk, Nothing}
 
 -- The digits of n, the last `most` of them where there are more.
 unfoldable pub digits : ℕ → ℕ → List ℕ
@@ -62,14 +62,13 @@ abbrev pub placeText : Bool → ℕ → List ℕ
 placeText hasPlace place = cond hasPlace (placed ++ decimal place) []
 
 -- The line of a refusal.
-abbrev pub numberedText : Numbered → List ℕ
+abbrev pub numberedText : Number → List ℕ
 numberedText n = refused ++ decimal (n .number) ++ placeText (n .placed) (n .place) ++ lineFeed
 
 abbrev pub refusalText : Refusal → List ℕ
-refusalText x = numberedText (told x)
+refusalText x = numberedText (numberOf x)
 
--- The text of what planning answers; a walk stands in the front of its area.
-abbrev pub outcomeText : Outcome → List ℕ → List ℕ
-outcomeText (Walk weight hops′) area = planText weight hops′ (take (hops′ + 1) area)
-outcomeText Nothing area = noneText
-outcomeText (Refused x) area = refusalText x
+-- The text of what is found; a walk stands in the front of its area.
+abbrev pub foundText : Found → List ℕ → List ℕ
+foundText (Walk weight hops′) area = planText weight hops′ (take (hops′ + 1) area)
+foundText Nothing area = noneText

@@ -6,8 +6,8 @@ use native.Mathlib.Omega.{arith}
 use native.Mathlib.Numerals.{add-one}
 use lib.ListN.{length, set, take, drop, getD, length-append}
 use lib.Seq.{sets, sets-eq, length-sets, take-suc}
-use Rattle.planner.specs.declared.Outcome.{Outcome}
-use Rattle.planner.specs.declared.Outcome.the-variants.{Walk, Nothing, Refused}
+use Rattle.search.specs.declared.Found.{Found}
+use Rattle.search.specs.declared.Found.the-variants.{Walk, Nothing}
 
 -- The text stands from the place `at` on, r is the place after it, and the other bytes are as they were.
 pub record Wrote (text : List ℕ) (at : ℕ) (old : List ℕ) (r : ℕ) (new : List ℕ) : Type 0 where
@@ -21,11 +21,10 @@ pub record WroteSome (Is : List ℕ → Type 0) (old : List ℕ) (r : ℕ) (new 
   pub is : Is text
   pub wrote : Wrote text 0 old r new
 
--- The walk that planning answers stands in its area.
-abbrev pub Standing : Outcome → ℕ → Type 0
+-- The walk that is found stands in its area.
+abbrev pub Standing : Found → ℕ → Type 0
 Standing (Walk weight hops) n = hops < n
 Standing Nothing n = Unit
-Standing (Refused x) n = Unit
 
 -- ---- laws
 sets-append : (t u l : List ℕ) (at : ℕ) → sets l at (t ++ u) ≡ sets (sets l at t) (at + length t) u

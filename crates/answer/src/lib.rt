@@ -2,28 +2,35 @@
 ghost use mathlib.Core.Path.{_≡_};
 ghost use Prim.Native.Nat.{_+_, _*_, _≤_};
 ghost use lib.ListN.{length};
-ghost use Rattle.book.specs.Reading.{reading};
+ghost use Rattle.limits.specs.Limits.{longest};
+ghost use Rattle.book.specs.Book.{Book};
+ghost use Rattle.book.specs.Reading.{accepted, reading};
+ghost use Rattle.book.specs.Tables.{IsGraph, IsSets};
 ghost use Rattle.answer.specs.Answer.{Printed, AnsweredOf};
-ghost use Rattle.answer.specs.Text.{outcomeText};
+ghost use Rattle.answer.specs.Text.{foundText};
 ghost use Rattle.answer.specs.Writing.{Wrote, WroteSome, Standing};
 
 mod text;
 
+use book::Answer;
 use book::Refusal;
 use limits::AREA;
 use limits::LONGEST;
-use planner::Outcome;
-use rules::Bound;
+use limits::MOST_PATHS;
+use limits::MOST_SETS;
+use limits::NO_ARC;
+use limits::PAIRS;
+use search::Found;
 use text::plan_text;
 use text::refusal_text;
 use text::word;
 
 // How many bytes the text has at most.
-pub const MOST: usize = 8192;
+pub const LONGEST_TEXT: usize = 8192;
 
 // Writes the text for an input (marks in two bytes, start, end, and a book) into the front of `out`, and answers how many
 // bytes it has.
-pub fn answer(input: &[u8], out: &mut [u8; MOST]) -> usize
+pub fn answer(input: &[u8], out: &mut [u8; LONGEST_TEXT]) -> usize
     ensures { λ r. ⌜ Printed (now (input .entry)) (now (out .entry)) r (now (out .exit)) ⌝ }
 {
     answer_in(input, out)
@@ -47,31 +54,71 @@ fn flags_of(high: u8, low: u8) -> u16
     (high as u16) * 256 + (low as u16)
 }
 
-// Binds, plans, and writes the text of the answer.
+// Loads the book, and writes the text of the answer.
 fn answer_book(bytes: &[u8], flags: u16, start: u8, end: u8, out: &mut [u8]) -> usize
     requires { ⌜ 8192 ≤ length (now out) ⌝ }
     ensures { λ r. ⌜ WroteSome (AnsweredOf (reading (now (bytes .entry))) flags start end) (now (out .entry)) r (now (out .exit)) ⌝ }
 {
-    let mut paths = [0u8; AREA];
-    match rules::bind(bytes, flags, &mut paths) {
-        Bound::Refused(r) => refusal_text(r, out),
-        Bound::Known(count) => {
-            let mut walk = [0u8; LONGEST];
-            let outcome = planner::plan(bytes, &paths, count, start, end, &mut walk);
-            outcome_text(outcome, &walk, out)
-        }
+    let mut weights = [NO_ARC; PAIRS];
+    let mut needed = [0u16; MOST_SETS];
+    let mut owners = [0u8; MOST_PATHS];
+    let mut entries = [0u8; AREA];
+    let read = book::load(bytes, &mut weights, &mut needed, &mut owners, &mut entries);
+    match read {
+        Answer::Refused(r) => refusal_text(r, out),
+        Answer::Read(counts) => answer_loaded(
+            &weights,
+            counts.vertices,
+            &needed,
+            &owners,
+            &entries,
+            counts.paths,
+            flags,
+            start,
+            end,
+            out,
+        ),
     }
 }
 
-fn outcome_text(outcome: Outcome, walk: &[u8], out: &mut [u8]) -> usize
-    requires { ⌜ Standing outcome (length (now walk)) ⌝ }
-    requires { ⌜ length (now walk) ≤ 1600 ⌝ }
+// Binds and plans in a book that has been read, in areas of its own.
+fn answer_loaded(
+    weights: &[u32; PAIRS],
+    vertices: usize,
+    needed: &[u16; MOST_SETS],
+    owners: &[u8; MOST_PATHS],
+    entries: &[u8],
+    listed: usize,
+    flags: u16,
+    start: u8,
+    end: u8,
+    out: &mut [u8],
+) -> usize
+    requires { ⌜ ((b : Book) × IsGraph b vertices (now weights) × IsSets b listed (now needed) (now owners) (now entries)) ⌝ }
     requires { ⌜ 8192 ≤ length (now out) ⌝ }
-    ensures { λ r. ⌜ Wrote (outcomeText outcome (now (walk .entry))) 0 (now (out .entry)) r (now (out .exit)) ⌝ }
+    ensures { λ r. ⌜ ((b : Book) → IsGraph b vertices (now (weights .entry)) → IsSets b listed (now (needed .entry)) (now (owners .entry)) (now (entries .entry)) → WroteSome (AnsweredOf (accepted b) flags start end) (now (out .entry)) r (now (out .exit))) ⌝ }
 {
-    match outcome {
-        Outcome::Walk { weight, hops } => plan_text(weight, hops, &walk[..hops + 1], out),
-        Outcome::Nothing => word(b"NONE\n", out, 0),
-        Outcome::Refused(r) => refusal_text(r, out),
+    if vertices <= start as usize {
+        return refusal_text(Refusal::Endpoint, out);
+    }
+    if vertices <= end as usize {
+        return refusal_text(Refusal::Endpoint, out);
+    }
+    let mut paths = [0u8; AREA];
+    let count = rules::gather(needed, owners, entries, listed, flags, &mut paths);
+    let mut walk = [0u8; LONGEST];
+    let found = planner::find(weights, vertices, &paths, count, start, end, &mut walk);
+    found_text(found, &walk, out)
+}
+
+fn found_text(found: Found, walk: &[u8], out: &mut [u8]) -> usize
+    requires { ⌜ Standing found (length (now walk)) ⌝ }
+    requires { ⌜ length (now walk) ≤ longest ⌝ }
+    requires { ⌜ 8192 ≤ length (now out) ⌝ }
+    ensures { λ r. ⌜ Wrote (foundText found (now (walk .entry))) 0 (now (out .entry)) r (now (out .exit)) ⌝ }
+{
+    match found {
+        Found::Walk { weight, hops } => plan_text(weight, hops, &walk[..hops + 1], out),
+        Found::Nothing => word(b"NONE\n", out, 0),
     }
 }

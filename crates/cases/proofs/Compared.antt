@@ -1,13 +1,12 @@
 -- What the comparisons find in records and in refusals.
 use Prim.Native.Nat.{ℕ}
-use mathlib.Core.Bool.{false, cond, false≢true}
+use mathlib.Core.Bool.{false, false≢true}
 use mathlib.Core.Path.{_≡_, refl, sym, ap, ap₂, _∙_}
 use native.Mathlib.Omega.{arith}
-use lib.Dec.{eqb}
 use Rattle.book.specs.declared.Number.{Number}
 use Rattle.book.specs.declared.Refusal.{Refusal}
 use Rattle.book.specs.declared.Refusal.the-variants.{Truncated, Tag, Length, Value, Repeated, TooMany, Endpoint, Area, Invalid, NotAWalk, Ended, NotStanding, Full}
-use Rattle.book.specs.Refusal.{numberOf}
+use Rattle.book.specs.Refusal.{numberOf, numbered}
 use Rattle.trial_record.specs.declared.Record.{Record}
 use Rattle.trials.specs.declared.Begun.{Begun}
 use Rattle.cases.specs.Same.{Tells}
@@ -22,19 +21,8 @@ pub same-fields : (x y : Record) → x .stage ≡ y .stage → x .start ≡ y .s
 same-fields x y e₁ e₂ e₃ e₄ e₅ e₆ e₇ e₈ e₉ =
     λ i. record { stage = e₁ i; start = e₂ i; end = e₃ i; known = e₄ i; first = e₅ i; failed = e₆ i; passed = e₇ i; litres = e₈ i; length = e₉ i }
 
--- The refusal of a number and a place.
-refusalAt : ℕ → ℕ → Refusal
-refusalAt n at =
-    cond (eqb n 1) (Truncated at)
-    (cond (eqb n 2) (Tag at)
-    (cond (eqb n 3) (Length at)
-    (cond (eqb n 4) (Value at)
-    (cond (eqb n 5) (Repeated at)
-    (cond (eqb n 6) (TooMany at)
-    (cond (eqb n 7) Endpoint (cond (eqb n 8) Area (cond (eqb n 9) Invalid (cond (eqb n 10) NotAWalk (cond (eqb n 11) Ended (cond (eqb n 12) NotStanding Full)))))))))))
-
-refusal-again : (r : Refusal) → refusalAt (numberOf r .number) (numberOf r .place) ≡ r
-unfolding refusalAt
+-- A refusal is known by its number and its place.
+refusal-again : (r : Refusal) → numbered (numberOf r .number) (numberOf r .place) ≡ r
 refusal-again (Truncated at) = refl
 refusal-again (Tag at) = refl
 refusal-again (Length at) = refl
@@ -54,7 +42,7 @@ module _ (x y : Refusal) {a b : Number} (of-x : a ≡ numberOf x) (of-y : b ≡ 
   pub same-numbers : a .number ≡ b .number → a .place ≡ b .place → x ≡ y
   same-numbers n p =
       sym (refusal-again x)
-      ∙ ap₂ refusalAt (sym (ap (λ (k : Number). k .number) of-x) ∙ n ∙ ap (λ (k : Number). k .number) of-y)
+      ∙ ap₂ numbered (sym (ap (λ (k : Number). k .number) of-x) ∙ n ∙ ap (λ (k : Number). k .number) of-y)
       (sym (ap (λ (k : Number). k .place) of-x) ∙ p ∙ ap (λ (k : Number). k .place) of-y)
       ∙ refusal-again y
 
