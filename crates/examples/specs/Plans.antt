@@ -1,19 +1,18 @@
 -- The settled sums of planning (01): what binding and then planning answer, for every lent area.
 use Prim.Native.Nat.{ℕ, _≤_}
-use mathlib.Core.Path.{_≡_, refl, sym, ap, ap₂, subst, _∙_}
-use mathlib.Core.Bool.{Bool, true, _&&_}
+use mathlib.Core.Path.{_≡_, refl, sym, ap, subst, _∙_}
+use mathlib.Core.Bool.{true}
 use mathlib.Core.List.{List, [], _∷_, _++_, List·Memᴰ, List·Memᴰ·head, List·Memᴰ·tail, List·Memᴰ·not-nil}
-use mathlib.Core.Option.{Option, none}
+use mathlib.Core.Option.{none}
 use borrow.Author.Tests.{le-leb}
 use lib.Dec.{ltb}
 use lib.ListN.{length, drop}
 use Rattle.walks.specs.Best.{None, None·mono}
-use Rattle.book.specs.declared.Refusal.{Refusal}
-use Rattle.book.specs.Book.{Book, All, IsPath, WellFormed, blank, graph}
+use Rattle.book.specs.Book.{Book, All, IsPath, WellFormed, graph}
 use Rattle.book.specs.BookLaws.{reading-is-book}
 use Rattle.examples.specs.Books.{bytesA, bookA, book-A, bytesWays, bookWays, book-ways, bytesShortcut, bookShortcut, book-shortcut}
-use Rattle.book.specs.Reading.{accepted, reading, kept}
-use Rattle.book.specs.Refusal.{refusalOf}
+use Rattle.book.specs.Reading.{accepted, reading, bookIn}
+use Rattle.book.specs.RefusalLaws.{hold→none}
 use Rattle.examples.specs.Walks.{Plan, marks-0, marks-1, marks-2, marks-3, back, stay, lower-vertex, fewer-hops}
 use Rattle.rules.specs.Binding.{covers, bound, known}
 use Rattle.rules.specs.BindingLaws.{known-paths}
@@ -23,7 +22,7 @@ use Rattle.planner.specs.declared.Outcome.{Outcome}
 use Rattle.planner.specs.declared.Outcome.the-variants.{Walk, Nothing}
 use Rattle.limits.specs.Limits.{longest}
 use Rattle.planner.specs.Planning.{Planned, Planning}
-use Rattle.planner.specs.RuleSets.{refusal, decided, planned-known, planned-same}
+use Rattle.planner.specs.RuleSets.{left-tests, PlannedIn, planned-known, planned-same}
 
 -- For every area that was bound for a batch and every area of 1,600 bytes or more for the walk, planning answers r, with w in the area's front.
 abbrev pub Gives : List ℕ → ℕ → ℕ → ℕ → Outcome → List ℕ → Type 0
@@ -31,23 +30,17 @@ Gives s flags start end r w =
     (area : List ℕ) (F : List (List ℕ)) → binding s flags area ≡ Binding.bound F → (old : List ℕ) → longest ≤ length old → (r′ : Outcome) (new : List ℕ)
     → Planning s (areaAfter (binding s flags area) area) (length F) start end old r′ new → (r′ ≡ r) × (new ≡ w ++ drop (length w) old)
 
-module _ (s : List ℕ) (b : Book) (read : reading s ≡ accepted b) (flags start end : ℕ) (in-count : (ltb start (b .count) && ltb end (b .count)) ≡ true) where
-  -- the refusal by the area for the walk and by the endpoints: none here
-  abbrev asked : Bool → Bool → Option Refusal
-  asked x y = refusalOf (record { book = none; areas = x; endpoints = y; valid = true; walk = true; standing = true; named = true; room = true })
-
-  unrefused : (old : List ℕ) → longest ≤ length old → refusal flags start end old (b .count) true true ≡ none
-  unrefused old long = ap₂ asked (le-leb longest (length old) long) in-count
-
+module _ (s : List ℕ) (b : Book) (read : reading s ≡ accepted b) (flags start end : ℕ) (start-below : ltb start (b .count) ≡ true) (end-below : ltb end (b .count) ≡ true) where
   -- the answer that the definitions have is the one that is given
   given : (r : Outcome) (w : List ℕ) → ((old : List ℕ) → Planned none (graph b) (known flags (b .sets)) start end old r (w ++ drop (length w) old)) → Gives s flags start end r w
   given r w have area F is old long r′ new p =
       let f = bind-accepted s flags area F is in
-      let b-is : f .book ≡ b = ap (kept blank) (sym (f .read) ∙ read) in
-      let q : decided flags start end old (b .count) (b .arcs) true true (known flags (b .sets)) r′ new =
-      subst (λ x. decided flags start end old (x .count) (x .arcs) true true (known flags (x .sets)) r′ new) b-is (planned-known flags start end old s area F f r′ new p) in
+      let b-is : f .book ≡ b = ap bookIn (sym (f .read) ∙ read) in
+      let q : PlannedIn flags start end old (b .count) (b .arcs) (known flags (b .sets)) r′ new =
+      subst (λ (x : Book). PlannedIn flags start end old (x .count) (x .arcs) (known flags (x .sets)) r′ new) b-is (planned-known flags start end old s area F f r′ new p) in
+      let unrefused = hold→none (left-tests flags start end old (b .count)) (le-leb longest (length old) long, (start-below, (end-below, tt))) in
       planned-same none (graph b) (known flags (b .sets)) (known flags (b .sets)) (λ _ m. m) (λ _ m. m) start end old r′ r new (w ++ drop (length w) old)
-      (subst (λ x. Planned x (graph b) (known flags (b .sets)) start end old r′ new) (unrefused old long) q)
+      (subst (λ x. Planned x (graph b) (known flags (b .sets)) start end old r′ new) unrefused q)
       (have old)
 
   walk-given : (w : List ℕ) (n k : ℕ) → Plan (graph b) (known flags (b .sets)) start end w n k → Gives s flags start end (Walk n k) w
@@ -78,12 +71,12 @@ pub sums : Sums
 unfolding covers bound
 sums =
     record {
-      marks-0 = walk-given bytesA bookA book-A 0 0 3 refl _ 300 3 marks-0;
-      marks-1 = walk-given bytesA bookA book-A 1 0 3 refl _ 350 2 marks-1;
-      marks-2 = walk-given bytesA bookA book-A 2 0 3 refl _ 300 3 marks-2;
-      marks-3 = walk-given bytesA bookA book-A 3 0 3 refl _ 450 5 marks-3;
-      back = λ flags. none-given bytesA bookA book-A flags 3 0 refl (None·mono (λ r m. absurd (List·Memᴰ·not-nil m)) back);
-      stay = λ flags. walk-given bytesA bookA book-A flags 3 3 refl _ 0 0 (stay (known flags (bookA .sets)) (λ r m. each (known-paths flags bookA well-A) m .two));
-      lower-vertex = λ flags. walk-given bytesWays bookWays book-ways flags 0 3 refl _ 200 2 lower-vertex;
-      fewer-hops = λ flags. walk-given bytesShortcut bookShortcut book-shortcut flags 0 3 refl _ 200 1 fewer-hops;
+      marks-0 = walk-given bytesA bookA book-A 0 0 3 refl refl _ 300 3 marks-0;
+      marks-1 = walk-given bytesA bookA book-A 1 0 3 refl refl _ 350 2 marks-1;
+      marks-2 = walk-given bytesA bookA book-A 2 0 3 refl refl _ 300 3 marks-2;
+      marks-3 = walk-given bytesA bookA book-A 3 0 3 refl refl _ 450 5 marks-3;
+      back = λ flags. none-given bytesA bookA book-A flags 3 0 refl refl (None·mono (λ r m. absurd (List·Memᴰ·not-nil m)) back);
+      stay = λ flags. walk-given bytesA bookA book-A flags 3 3 refl refl _ 0 0 (stay (known flags (bookA .sets)) (λ r m. each (known-paths flags bookA well-A) m .two));
+      lower-vertex = λ flags. walk-given bytesWays bookWays book-ways flags 0 3 refl refl _ 200 2 lower-vertex;
+      fewer-hops = λ flags. walk-given bytesShortcut bookShortcut book-shortcut flags 0 3 refl refl _ 200 1 fewer-hops;
     }

@@ -1,7 +1,7 @@
 -- 01's settled sums: those that 01 stars, in its order. Each is from the bytes of a book, and for all lent areas that are long enough.
 use Prim.Native.Nat.{ℕ, _≤_}
 use mathlib.Core.Path.{_≡_, refl, ap, ap₂, _∙_}
-use mathlib.Core.Bool.{Bool, true, _&&_}
+use mathlib.Core.Bool.{true}
 use mathlib.Core.List.{List, [], _∷_, _++_}
 use mathlib.Core.Option.{Option, none}
 use native.Mathlib.Omega.{arith}
@@ -13,8 +13,9 @@ use Rattle.book.specs.declared.Answer.{Answer}
 use Rattle.book.specs.declared.Answer.the-variants.{Read}
 use Rattle.book.specs.declared.Refusal.{Refusal}
 use Rattle.book.specs.declared.Refusal.the-variants.{Truncated, Value}
-use Rattle.book.specs.Refusal.{told, refusalOf, firstFailure}
-use Rattle.book.specs.Book.{Book, WellFormed, allPaths, graph, simple, names}
+use Rattle.book.specs.Refusal.{numberOf, refusalBy}
+use Rattle.book.specs.RefusalLaws.{hold→none}
+use Rattle.book.specs.Book.{Book, WellFormed, allPaths, graph, isPath, simple, names}
 use Rattle.book.specs.BookLaws.{reading-is-book}
 use Rattle.book.specs.Reading.{accepted, reading, answer}
 use Rattle.examples.specs.Books.{bytesA, bookA, book-A, bytesWays, bookWays, book-ways, bytesShortcut, bookShortcut, book-shortcut, count-64, count-65, no-body}
@@ -22,20 +23,21 @@ use Rattle.automaton.specs.Chosen.{chosen}
 use Rattle.examples.specs.Walks.{marks-3, named-123, named-13}
 use Rattle.rules.specs.Binding.{covers, bound, known, once}
 use Rattle.limits.specs.Limits.{areaSize, longest}
-use Rattle.rules.specs.Operations.{Binding, outcome, bindingOf, binding, areaAfter}
+use Rattle.rules.specs.Operations.{Binding, outcome, bindTests, bindingOf, binding, areaAfter}
 use Rattle.planner.specs.declared.Outcome.{Outcome}
 use Rattle.planner.specs.declared.Outcome.the-variants.{Walk, Nothing}
 use Rattle.planner.specs.Planning.{Planning}
 use Rattle.examples.specs.Plans.{Gives, sums as planning}
 use Rattle.trials.specs.declared.Begun.{Begun}
 use Rattle.trials.specs.declared.Reported.{Reported}
-use Rattle.trial_rules.specs.Trials.{Report, failed, State, pathArea, trials, takes, Valid, isForbiddenSet, isRecord, isValid, beginRefusal, refusal, Plan, Planner, holding, unless, step, after, run}
+use Rattle.trial_rules.specs.Trials.{Report, failed, State, pathArea, trials, beginTests, oracleTests, Valid, isForbiddenSet, isRecord, isValid, beginRefusal, refusal, Plan, Planner, holding, unless, step, after, run}
 use Rattle.series.specs.Reports.{reportsIn, reportsOf}
-use Rattle.trials.specs.Operations.{Leaves, leaves, begunAs, firstState, beginningOf, beginning, reportedAs, reportingOf, reporting, replayingOf, replaying}
+use Rattle.trials.specs.Operations.{Leaves, leaves, begunAs, firstState, beginningOf, beginning, reportedAs, reportingOf, reporting}
+use Rattle.series.specs.Making.{replayingOf, replaying}
 use Rattle.trial_rules.specs.Tests.{isForbiddenSet→, isValid→Valid}
 use Rattle.trial_rules.specs.Plans.{plan-best, plan-none}
 use Rattle.trials.specs.Replanning.{chosen-planner}
-use Rattle.trial_rules.specs.Accepted.{oracleTests, only-oracle}
+use Rattle.trial_rules.specs.Accepted.{only-oracle}
 use Rattle.trials.specs.OperationLaws.{same-step}
 
 -- ---- what the sums say
@@ -105,7 +107,7 @@ after-13 paths walk =
 
 -- Reading is refused under 01's number n, at a byte.
 abbrev pub Refuses : List ℕ → ℕ → ℕ → Type 0
-Refuses s n at = (x : Refusal) × (answer (reading s) ≡ Answer.Refused x) × (told x ≡ record { number = n; placed = true; place = at })
+Refuses s n at = (x : Refusal) × (answer (reading s) ≡ Answer.Refused x) × (numberOf x ≡ record { number = n; placed = true; place = at })
 
 -- ---- the list
 pub record Sums : Type 0 where
@@ -133,15 +135,10 @@ pub record Sums : Type 0 where
   pub no-body : Refuses (0x01 ∷ 0x00 ∷ 0x01 ∷ []) 1 0
 
 -- ---- planning
--- by the tests of the areas
-abbrev asked : Bool → Option Refusal
-asked areas =
-    refusalOf (record { book = none; areas = areas; endpoints = true; valid = true; walk = true; standing = true; named = true; room = true })
-
 binds : (s : List ℕ) (b : Book) → reading s ≡ accepted b → (flags : ℕ) (paths : List ℕ) → areaSize ≤ length paths
     → binding s flags paths ≡ Binding.bound (known flags (b .sets))
 binds s b read flags paths fits =
-    ap (λ x. bindingOf x flags paths) read ∙ ap (λ x. outcome (asked x) (known flags (b .sets))) (le-leb areaSize (length paths) fits)
+    ap (λ x. bindingOf x flags paths) read ∙ ap (λ o. outcome o (known flags (b .sets))) (hold→none (bindTests paths b) (le-leb areaSize (length paths) fits, tt))
 
 plans : (s : List ℕ) (b : Book) → reading s ≡ accepted b → (flags start end : ℕ) (r : Outcome) (w : List ℕ) → Gives s flags start end r w → Plans s flags start end r w
 plans s b read flags start end r w gives paths walk fits long =
@@ -163,15 +160,15 @@ plannerA = chosen-planner bookA well-A
 
 -- An accepted report, as an operation and as one of a list.
 record Taken (σ : State) (ρ : Report) (τ : State) : Type 0 where
-  leaves : reporting bytesA (σ .rec) (pathArea σ) (σ .area) ρ ≡ leaving (Reported.Accepted (τ .rec)) τ
+  left : reporting bytesA (σ .rec) (pathArea σ) (σ .area) ρ ≡ leaving (Reported.Accepted (τ .rec)) τ
   next : after graphA planA σ ρ ≡ τ
 
-taken : (σ : State) (ρ : Report) (τ : State) → longest ≤ length (σ .area) → Valid graphA σ → firstFailure (oracleTests graphA σ ρ) ≡ none
+taken : (σ : State) (ρ : Report) (τ : State) → longest ≤ length (σ .area) → Valid graphA σ → refusalBy (oracleTests graphA σ ρ) ≡ none
     → step graphA planA σ ρ ≡ τ → Taken σ ρ τ
 taken σ ρ τ long v ok to =
-    let unrefused : refusal graphA σ ρ ≡ none = only-oracle graphA σ long v ρ ∙ ok in
+    let unrefused : refusal graphA σ ρ ≡ none = only-oracle graphA σ ρ long v ∙ ok in
     record {
-      leaves =
+      left =
           ap (λ x. reportingOf x (σ .rec) (pathArea σ) (σ .area) ρ) book-A
           ∙ same-step bookA σ v ρ
           ∙ ap₂ (λ x y. reportedAs x y (σ .rec) (pathArea σ) (σ .area)) unrefused to;
@@ -189,11 +186,10 @@ module _ (paths walk : List ℕ) (fits : areaSize ≤ length paths) (long : long
   σ₂ = after-13 paths walk
 
   pub opens : beginRefusal graphA 0 3 paths walk ≡ none
-  unfolding beginRefusal
-  opens = ap₂ (λ x y. asked (x && y)) (le-leb areaSize (length paths) fits) (le-leb longest (length walk) long)
+  opens = hold→none (beginTests graphA 0 3 paths walk) (le-leb areaSize (length paths) fits, (le-leb longest (length walk) long, (refl, (refl, tt))))
 
   pub first-is : firstState bookA 3 0 3 paths walk ≡ σ₀
-  unfolding covers bound isForbiddenSet once takes simple names
+  unfolding covers bound isForbiddenSet once isPath simple names
   first-is =
       ap (λ (p : Option (List ℕ)). holding graphA p (σ₀ .forbidden) 0 3 2 0 (drop areaSize paths) walk)
       (plan-best plannerA (isForbiddenSet→ 4 (σ₀ .forbidden) tt) (omega arith) (omega arith) (marks-3 .best))
@@ -206,31 +202,31 @@ module _ (paths walk : List ℕ) (fits : areaSize ≤ length paths) (long : long
   long-after front six = simp (length-append, length-drop) (omega (arith, long, six))
 
   pub valid-3 : Valid graphA σ₀
-  unfolding isValid isRecord isForbiddenSet once isFeasible takes simple names
+  unfolding isValid isRecord isForbiddenSet once isFeasible isPath simple names
   valid-3 = isValid→Valid graphA σ₀ tt
 
   valid-123 : Valid graphA σ₁
-  unfolding isValid isRecord isForbiddenSet once isFeasible takes simple names
+  unfolding isValid isRecord isForbiddenSet once isFeasible isPath simple names
   valid-123 = isValid→Valid graphA σ₁ tt
 
   step-123 : step graphA planA σ₀ (failed (1 ∷ 2 ∷ 3 ∷ [])) ≡ σ₁
-  unfolding isForbiddenSet once takes simple names
+  unfolding isForbiddenSet once isPath simple names
   step-123 =
       ap (λ (p : Option (List ℕ)). holding graphA p (σ₁ .forbidden) 0 3 2 1 (σ₀ .beyond) (σ₀ .area))
       (plan-best plannerA (isForbiddenSet→ 4 (σ₁ .forbidden) tt) (omega arith) (omega arith) (named-123 .best))
 
   step-13 : step graphA planA σ₁ (failed (1 ∷ 3 ∷ [])) ≡ σ₂
-  unfolding isForbiddenSet once takes simple names
+  unfolding isForbiddenSet once isPath simple names
   step-13 =
       ap (λ (p : Option (List ℕ)). holding graphA p (σ₂ .forbidden) 0 3 2 2 (σ₁ .beyond) (σ₁ .area))
       (plan-none plannerA (isForbiddenSet→ 4 (σ₂ .forbidden) tt) (omega arith) (omega arith) named-13)
 
   taken-123 : Taken σ₀ (failed (1 ∷ 2 ∷ 3 ∷ [])) σ₁
-  unfolding takes simple names
+  unfolding isPath simple names
   taken-123 = taken σ₀ (failed (1 ∷ 2 ∷ 3 ∷ [])) σ₁ (long-after (0 ∷ 1 ∷ 2 ∷ 1 ∷ 2 ∷ 3 ∷ []) refl) valid-3 refl step-123
 
   taken-13 : Taken σ₁ (failed (1 ∷ 3 ∷ [])) σ₂
-  unfolding takes simple names
+  unfolding isPath simple names
   taken-13 = taken σ₁ (failed (1 ∷ 3 ∷ [])) σ₂ (long-after (0 ∷ 1 ∷ 3 ∷ 1 ∷ 2 ∷ 3 ∷ []) refl) valid-123 refl step-13
 
   -- the lists of reports
@@ -257,11 +253,11 @@ sums =
       marks-2 = plans bytesA bookA book-A 2 0 3 (Walk 300 3) (0 ∷ 1 ∷ 2 ∷ 3 ∷ []) (planning .marks-2);
       marks-3 = plans bytesA bookA book-A 3 0 3 (Walk 450 5) (0 ∷ 1 ∷ 2 ∷ 1 ∷ 2 ∷ 3 ∷ []) (planning .marks-3);
       from-marks-3 = begins;
-      named-123 = λ paths walk fits long. taken-123 paths walk fits long .leaves;
-      then-named-13 = λ paths walk fits long. taken-13 paths walk fits long .leaves;
+      named-123 = λ paths walk fits long. taken-123 paths walk fits long .left;
+      then-named-13 = λ paths walk fits long. taken-13 paths walk fits long .left;
       trials-2 = λ paths walk. refl;
-      list-123 = λ paths walk fits long. replays paths walk fits long _ (after-123 paths walk) (run-123 paths walk fits long);
-      list-123-13 = λ paths walk fits long. replays paths walk fits long _ (after-13 paths walk) (run-13 paths walk fits long);
+      list-123 = λ paths walk fits long. replays paths walk fits long (1 ∷ 3 ∷ 1 ∷ 2 ∷ 3 ∷ []) (after-123 paths walk) (run-123 paths walk fits long);
+      list-123-13 = λ paths walk fits long. replays paths walk fits long (1 ∷ 3 ∷ 1 ∷ 2 ∷ 3 ∷ 1 ∷ 2 ∷ 1 ∷ 3 ∷ []) (after-13 paths walk) (run-13 paths walk fits long);
       back = λ flags. plans bytesA bookA book-A flags 3 0 Nothing [] (planning .back flags);
       stay = λ flags. plans bytesA bookA book-A flags 3 3 (Walk 0 0) (3 ∷ []) (planning .stay flags);
       lower-vertex = λ flags. plans bytesWays bookWays book-ways flags 0 3 (Walk 200 2) (0 ∷ 1 ∷ 3 ∷ []) (planning .lower-vertex flags);

@@ -9,14 +9,14 @@ use lib.ListN.{length}
 use Rattle.walks.specs.Avoid.{occurs→Occurs}
 use Rattle.walks.specs.Feasible.{isFeasible}
 use Rattle.book.specs.declared.Refusal.the-variants.{Ended, NotStanding}
-use Rattle.book.specs.Refusal.{firstFailure}
-use Rattle.book.specs.Book.{simple, names}
+use Rattle.book.specs.Refusal.{refusalBy}
+use Rattle.book.specs.Book.{isPath, simple, names}
 use Rattle.examples.specs.Books.{bookA}
 use Rattle.rules.specs.Binding.{covers, bound, once}
 use Rattle.limits.specs.Limits.{areaSize, longest}
-use Rattle.trial_rules.specs.Trials.{passed, failed, State, Valid, Begin, EachAccepted, run, refusal, takes, isValid, isForbiddenSet, isRecord}
+use Rattle.trial_rules.specs.Trials.{passed, failed, State, Valid, Begin, EachAccepted, run, refusal, oracleTests, isValid, isForbiddenSet, isRecord}
 use Rattle.trial_rules.specs.Tests.{isForbiddenSet→, isValid→Valid}
-use Rattle.trial_rules.specs.Accepted.{oracleTests, only-oracle}
+use Rattle.trial_rules.specs.Accepted.{only-oracle}
 use Rattle.trial_rules.specs.Lacking.{lacking}
 use Rattle.trials.specs.Replanning.{trialsOf}
 use Rattle.trial_rules.specs.Oracle.{OracleSet, TrueOracle, TrueTo}
@@ -32,7 +32,7 @@ module _ (paths walk : List ℕ) (fits : areaSize ≤ length paths) (long : long
 
   -- The oracle with these two paths is true, in reports that name them.
   pub oracle-set : OracleSet trialsA oracles
-  unfolding covers bound isForbiddenSet once takes simple names lacking
+  unfolding covers bound isForbiddenSet once isPath simple names lacking
   oracle-set = record { taken = isForbiddenSet→ 4 oracles tt .taken; few = omega arith }
 
   pub oracle-true : TrueOracle trialsA oracles (failed (1 ∷ 2 ∷ 3 ∷ []) ∷ failed (1 ∷ 3 ∷ []) ∷ [])
@@ -49,31 +49,30 @@ module _ (paths walk : List ℕ) (fits : areaSize ≤ length paths) (long : long
 
   -- Refused at the start: a path that stands in the walk and names a vertex twice, one of one vertex, one that does not stand in the walk,
   -- one that is known already. Refused at the end: a passed report.
-  at-start : (r : List ℕ) → refusal graphA (begun-3 paths walk) (failed r) ≡ firstFailure (oracleTests graphA (begun-3 paths walk) (failed r))
+  at-start : (r : List ℕ) → refusal graphA (begun-3 paths walk) (failed r) ≡ refusalBy (oracleTests graphA (begun-3 paths walk) (failed r))
   at-start r =
-      only-oracle graphA (begun-3 paths walk) (long-after paths walk fits long (0 ∷ 1 ∷ 2 ∷ 1 ∷ 2 ∷ 3 ∷ []) refl) (valid-3 paths walk fits long)
-      (failed r)
+      only-oracle graphA (begun-3 paths walk) (failed r) (long-after paths walk fits long (0 ∷ 1 ∷ 2 ∷ 1 ∷ 2 ∷ 3 ∷ []) refl) (valid-3 paths walk fits long)
 
   pub named-twice : refusal graphA (begun-3 paths walk) (failed (2 ∷ 1 ∷ 2 ∷ [])) ≡ some NotStanding
-  unfolding takes simple names
+  unfolding isPath simple names
   named-twice = at-start (2 ∷ 1 ∷ 2 ∷ [])
 
   pub too-short : refusal graphA (begun-3 paths walk) (failed (1 ∷ [])) ≡ some NotStanding
-  unfolding takes simple names
+  unfolding isPath simple names
   too-short = at-start (1 ∷ [])
 
   pub not-there : refusal graphA (begun-3 paths walk) (failed (1 ∷ 3 ∷ [])) ≡ some NotStanding
-  unfolding takes simple names
+  unfolding isPath simple names
   not-there = at-start (1 ∷ 3 ∷ [])
 
   pub known-already : refusal graphA (begun-3 paths walk) (failed (0 ∷ 1 ∷ 2 ∷ 3 ∷ [])) ≡ some NotStanding
-  unfolding takes simple names
+  unfolding isPath simple names
   known-already = at-start (0 ∷ 1 ∷ 2 ∷ 3 ∷ [])
 
   valid-13 : Valid graphA (after-13 paths walk)
-  unfolding isValid isRecord isForbiddenSet once isFeasible takes simple names
+  unfolding isValid isRecord isForbiddenSet once isFeasible isPath simple names
   valid-13 = isValid→Valid graphA (after-13 paths walk) tt
 
   pub too-late : refusal graphA (after-13 paths walk) passed ≡ some Ended
   too-late =
-      only-oracle graphA (after-13 paths walk) (long-after paths walk fits long (0 ∷ 1 ∷ 3 ∷ 1 ∷ 2 ∷ 3 ∷ []) refl) valid-13 passed
+      only-oracle graphA (after-13 paths walk) passed (long-after paths walk fits long (0 ∷ 1 ∷ 3 ∷ 1 ∷ 2 ∷ 3 ∷ []) refl) valid-13
