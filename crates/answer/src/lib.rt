@@ -20,6 +20,7 @@ use limits::MOST_PATHS;
 use limits::MOST_SETS;
 use limits::NO_ARC;
 use limits::PAIRS;
+use lists::u16_from;
 use search::Found;
 use text::plan_text;
 use text::refusal_text;
@@ -44,14 +45,8 @@ fn answer_in(input: &[u8], out: &mut [u8]) -> usize
     if input.len() < 4 {
         return refusal_text(Refusal::Truncated(0), out);
     }
-    let flags = flags_of(input[0], input[1]);
+    let flags = u16_from(input[0], input[1]);
     answer_book(&input[4..], flags, input[2], input[3], out)
-}
-
-fn flags_of(high: u8, low: u8) -> u16
-    ensures { λ r. ⌜ r ≡ high * 256 + low ⌝ }
-{
-    (high as u16) * 256 + (low as u16)
 }
 
 // Loads the book, and writes the text of the answer.

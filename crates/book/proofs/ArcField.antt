@@ -12,7 +12,7 @@ use Rattle.book.specs.declared.Refusal.the-variants.{Value, Repeated}
 use Rattle.walks.specs.Graph.{Arc as Book·Arc}
 use Rattle.book.specs.Book.{Book, IsArc, WellFormed, counts, given, properArc}
 use Rattle.book.specs.BookLaws.{is-arc}
-use Rattle.book.specs.Reading.{Reading, answer, arcAt, taken, kept, proper, fresh}
+use Rattle.book.specs.Reading.{Reading, readAs, arcAt, taken, kept, proper, fresh}
 use Rattle.book.specs.TableLaws.{entered-arc, marked→free, unmarked→given}
 use Rattle.book.specs.Tables.{weightTable}
 use Rattle.limits.specs.Limits.{noArc}
@@ -30,10 +30,10 @@ module _ (c : Counts) (s : List ℕ) (b : Book) (at : ℕ) (so-far : c ≡ count
   abbrev Stays : Reading → Type 0
   Stays r = t ≡ weightTable (kept b r .arcs)
 
-  pub arc-improper : properArc (c .vertices) a ≡ false → (Refused (Value at) ≡ answer (taken Arc s b at)) × Stays (taken Arc s b at)
+  pub arc-improper : properArc (c .vertices) a ≡ false → (Refused (Value at) ≡ readAs (taken Arc s b at)) × Stays (taken Arc s b at)
   arc-improper e =
       let is = taken-value Arc s b at (value-is false e) in
-      (sym (ap answer is), held ∙ ap (λ r. weightTable (kept b r .arcs)) (sym is))
+      (sym (ap readAs is), held ∙ ap (λ r. weightTable (kept b r .arcs)) (sym is))
 
   module _ (p : properArc (c .vertices) a ≡ true) where
     within : IsArc (b .count) a
@@ -46,19 +46,19 @@ module _ (c : Counts) (s : List ℕ) (b : Book) (at : ℕ) (so-far : c ≡ count
     head-fits = omega (arith, within .head-below, w .few-vertices)
 
     pub arc-repeated : (getD t (a .tail * 64 + a .head) 0 ≡ noArc → ⊥)
-        → (Refused (Repeated at) ≡ answer (taken Arc s b at)) × Stays (taken Arc s b at)
+        → (Refused (Repeated at) ≡ readAs (taken Arc s b at)) × Stays (taken Arc s b at)
     arc-repeated ne =
         let seen = unmarked→given b w _ _ tail-fits head-fits (λ e. ne (ap (λ l. getD l (a .tail * 64 + a .head) 0) held ∙ e)) in
         let is = taken-repeated Arc s b at (value-is true p) (given-is true seen) in
-        (sym (ap answer is), held ∙ ap (λ r. weightTable (kept b r .arcs)) (sym is))
+        (sym (ap readAs is), held ∙ ap (λ r. weightTable (kept b r .arcs)) (sym is))
 
     pub arc-added : getD t (a .tail * 64 + a .head) 0 ≡ noArc
-        → (Read (record { vertices = c .vertices; arcs = c .arcs + 1; sets = c .sets; paths = c .paths }) ≡ answer (taken Arc s b at))
+        → (Read (record { vertices = c .vertices; arcs = c .arcs + 1; sets = c .sets; paths = c .paths }) ≡ readAs (taken Arc s b at))
         × (set t (a .tail * 64 + a .head) (a .weight) ≡ weightTable (kept b (taken Arc s b at) .arcs))
     arc-added e =
         let new = marked→free b w _ _ tail-fits head-fits (ap (λ l. getD l (a .tail * 64 + a .head) 0) (sym held) ∙ e) in
         let is = taken-whole Arc s b at (value-is true p) (given-is false new) refl in (
-          ap Read (counts-arc c s b at so-far) ∙ sym (ap answer is),
+          ap Read (counts-arc c s b at so-far) ∙ sym (ap readAs is),
           ap₂ (λ l (d : Book·Arc). set l (d .tail * 64 + d .head) (d .weight)) held read
               ∙ sym (entered-arc _ (b .arcs) (arcAt s at))
               ∙ ap (λ r. weightTable (kept b r .arcs)) (sym is),

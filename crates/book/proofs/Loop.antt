@@ -13,7 +13,7 @@ use Rattle.book.specs.declared.Kind.{Kind}
 use Rattle.book.specs.declared.Kind.the-variants.{VertexCount, Path, Unknown}
 use Rattle.book.specs.Book.{Book, WellFormed, allPaths, blank, counts}
 use Rattle.book.specs.BookLaws.{answer-read, answer-refused, blank-well-formed, field-passed, field-extends, field-well-formed}
-use Rattle.book.specs.Reading.{Reading, accepted, refused, answer, kindAt, endAt, arcAt, andThen, extended, kept, field, fields, reading}
+use Rattle.book.specs.Reading.{Reading, accepted, refused, readAs, kindAt, endAt, arcAt, andThen, extended, kept, field, fields, reading}
 use Rattle.book.specs.Tables.{Blank, Tables, entered, ownersFrom, entries}
 
 pub not-both : (r : Reading) (b : Book) (q : Refusal) → r ≡ accepted b → r ≡ refused q → ⊥
@@ -76,7 +76,7 @@ module _ (s : List ℕ) (at : ℕ) (c : Counts) (w f o p : List ℕ) (r : Reache
   pub finished : length s ≤ at → reading s ≡ accepted (r .book)
   finished done = sym (r .rest) ∙ fields-end (r .turns) s (r .book) at done
 
-  module _ (more : at < length s) (step : Answer) (answered : step ≡ answer (field s (r .book) at)) where
+  module _ (more : at < length s) (step : Answer) (answered : step ≡ readAs (field s (r .book) at)) where
     pub stopped : (q : Refusal) → step ≡ Refused q → reading s ≡ refused q
     stopped q e =
         let (t, _, turn) = fields-turn (r .turns) s (r .book) at more (r .enough) in

@@ -14,7 +14,7 @@ use Rattle.book.specs.declared.Kind.the-variants.{Path}
 use Rattle.book.specs.declared.Refusal.the-variants.{Value, TooMany}
 use Rattle.book.specs.Book.{Book, RuleSet, All, IsPath, WellFormed, allPaths, counts, simple}
 use Rattle.book.specs.BookLaws.{all-map, paths-path}
-use Rattle.book.specs.Reading.{Reading, answer, addPath, endAt, lengthAt, pathAt, taken, kept, proper}
+use Rattle.book.specs.Reading.{Reading, readAs, addPath, endAt, lengthAt, pathAt, taken, kept, proper}
 use Rattle.book.specs.Tables.{ownersFrom, entries, padded, ownerTable, pathTable}
 use Rattle.book.specs.EntryLaws.{length-padded, length-owners, entries-snoc, length-entries}
 use Rattle.book.proofs.Added.{counts-path, owners-path}
@@ -66,14 +66,14 @@ module _ (c : Counts) (s : List ℕ) (b : Book) (at : ℕ) (so-far : c ≡ count
   -- what a path's field answers, with what the tables are then
   abbrev Answers : Answer → List ℕ → List ℕ → Type 0
   Answers r o′ e′ =
-      (r ≡ answer (taken Path s b at))
+      (r ≡ readAs (taken Path s b at))
       × (o′ ≡ ownerTable (kept b (taken Path s b at) .sets))
       × (e′ ≡ pathTable (kept b (taken Path s b at) .sets))
 
-  stays : (r : Reading) → taken Path s b at ≡ r → kept b r ≡ b → Answers (answer r) o e
+  stays : (r : Reading) → taken Path s b at ≡ r → kept b r ≡ b → Answers (readAs r) o e
   stays r is same =
       let unmoved : b .sets ≡ kept b (taken Path s b at) .sets = ap (λ (d : Book). d .sets) (sym same) ∙ ap (λ q. kept b q .sets) (sym is) in
-      (sym (ap answer is), owners-held ∙ ap ownerTable unmoved, paths-held ∙ ap pathTable unmoved)
+      (sym (ap readAs is), owners-held ∙ ap ownerTable unmoved, paths-held ∙ ap pathTable unmoved)
 
   pub path-improper : simple (c .vertices) (pathAt s at) ≡ false → Answers (Refused (Value at)) o e
   path-improper q = stays _ (taken-value Path s b at (value-is false q)) refl
@@ -93,7 +93,7 @@ module _ (c : Counts) (s : List ℕ) (b : Book) (at : ℕ) (so-far : c ≡ count
       let size : length (pathAt s at) ≡ lengthAt s at = length-slice (at + 3) (endAt s at) s whole ∙ omega arith in
       let owner : (c .sets - 1) % 256 ≡ length (b .sets) - 1 = omega (arith, w .few-sets) in
       let byte : lengthAt s at % 256 ≡ lengthAt s at = omega arith in (
-        ap Read (counts-path c s b at so-far some-set) ∙ sym (ap answer is),
+        ap Read (counts-path c s b at so-far some-set) ∙ sym (ap readAs is),
         owner-added o (c .paths) _ (b .sets) (pathAt s at) (omega arith) owners-held paths-are room owner
             ∙ ap (λ r. ownerTable (kept b r .sets)) (sym is),
         ap (λ m. paste (set e (c .paths * 9) m) (c .paths * 9 + 1) (pathAt s at) (lengthAt s at)) byte

@@ -21,7 +21,7 @@ use Rattle.book.specs.RefusalLaws.{none→hold}
 use Rattle.lists.specs.Test.{and-true, or-false, either}
 use Rattle.walks.specs.Graph.{Arc, isSome, weightIn}
 use Rattle.book.specs.Book.{RuleSet, Book, blank, allPaths, counts, given, properArc, names, simple, isPath, All, IsArc, IsPath, PairsOnce, VerticesOnce, WellFormed}
-use Rattle.book.specs.Reading.{Reading, accepted, refused, answer, kindAt, lengthAt, endAt, countAt, arcAt, flagsAt, pathAt, follows, fits, proper, fresh, room, framing, content, extended, addPath, outcome, field, fields, andThen, reading}
+use Rattle.book.specs.Reading.{Reading, accepted, refused, readAs, kindAt, lengthAt, endAt, countAt, arcAt, flagsAt, pathAt, follows, fits, proper, fresh, room, framing, content, extended, addPath, outcome, field, fields, andThen, reading}
 
 -- ---- lists
 pub all-map : {A : Type 0} {P Q : A → Type 0} → ((x : A) → P x → Q x) → (xs : List A) → All P xs → All Q xs
@@ -302,11 +302,11 @@ reading-is-book (x ∷ s) b e =
     fields-is-book (length s) (x ∷ s) b₁ _ b (field-is-book (x ∷ s) blank 0 b₁ blank-well-formed here) rest
 
 -- an answer tells the reading
-pub answer-read : (r : Reading) (d : Counts) → answer r ≡ Read d → (b : Book) × (r ≡ accepted b) × (d ≡ counts b)
+pub answer-read : (r : Reading) (d : Counts) → readAs r ≡ Read d → (b : Book) × (r ≡ accepted b) × (d ≡ counts b)
 answer-read (accepted b) d e = (b, refl, cc)
 answer-read (refused q) d e = absurd (let z : _≡_ {A = ℕ} 0 1 = cc in omega arith)
 
-pub answer-refused : (r : Reading) (q : Refusal) → answer r ≡ Refused q → r ≡ refused q
+pub answer-refused : (r : Reading) (q : Refusal) → readAs r ≡ Refused q → r ≡ refused q
 answer-refused (accepted b) q e = absurd (let z : _≡_ {A = ℕ} 0 1 = cc in omega arith)
 answer-refused (refused p) q e = let same : p ≡ q = cc in ap refused same
 

@@ -10,7 +10,7 @@ use Rattle.book.specs.declared.Answer.the-variants.{Read}
 use Rattle.book.specs.declared.Counts.{Counts}
 use Rattle.book.specs.Book.{Book, RuleSet, All, allPaths, counts}
 use Rattle.book.specs.BookLaws.{answer-read, reading-is-book, all-map}
-use Rattle.book.specs.Reading.{accepted, reading, answer}
+use Rattle.book.specs.Reading.{accepted, reading, readAs}
 use Rattle.book.specs.Tables.{Tables, IsGraph, IsSets, entries, ownersFrom, ownerTable}
 use Rattle.book.specs.EntryLaws.{Short, length-padded, length-entries}
 
@@ -21,7 +21,7 @@ pub record Loaded (s : List ℕ) (c : Counts) (weights flags owners paths : List
   pub graph : IsGraph book (c .vertices) weights
   pub sets : IsSets book (c .paths) flags owners paths
 
-pub loaded : (s : List ℕ) (r : Answer) (c : Counts) (w f o p : List ℕ) → r ≡ answer (reading s) → ((b : Book) → reading s ≡ accepted b → Tables b w f o p) → r ≡ Read c
+pub loaded : (s : List ℕ) (r : Answer) (c : Counts) (w f o p : List ℕ) → r ≡ readAs (reading s) → ((b : Book) → reading s ≡ accepted b → Tables b w f o p) → r ≡ Read c
     → Loaded s c w f o p
 loaded s r c w f o p answered tables read =
     let (b, is, counted) = answer-read (reading s) c (sym answered ∙ read) in

@@ -28,9 +28,9 @@ verdict none a = a
 verdict (some r) a = Refused r
 
 -- what the reader answers
-abbrev pub answer : Reading → Answer
-answer (accepted b) = Read (counts b)
-answer (refused r) = Refused r
+abbrev pub readAs : Reading → Answer
+readAs (accepted b) = Read (counts b)
+readAs (refused r) = Refused r
 
 -- The field that starts at byte `at` of s.
 abbrev pub kindOf : ℕ → Kind

@@ -6,7 +6,7 @@ ghost use lib.Seq.{slice, paste};
 ghost use Rattle.limits.specs.Limits.{mostVertices, areaSize};
 ghost use Rattle.book.specs.Book.{Book, WellFormed, names, properArc, isPath};
 ghost use Rattle.book.specs.Book.{counts as Book·counts, simple as Book·simple};
-ghost use Rattle.book.specs.Reading.{answer, u16At, u32At, endAt, lengthAt, kindOf, framed, taken, kept};
+ghost use Rattle.book.specs.Reading.{readAs, u16At, u32At, endAt, lengthAt, kindOf, framed, taken, kept};
 ghost use Rattle.book.specs.Reading.{field as Reading·field, fits as Reading·fits, follows as Reading·follows};
 ghost use Rattle.book.specs.Tables.{Tables, weightTable, flagTable, ownerTable, pathTable};
 ghost use Rattle.book.specs.declared.Kind.the-variants.{VertexCount, Arc, RuleSet, Path};
@@ -108,7 +108,7 @@ fn frame(bytes: &[u8], at: usize, counts: Counts) -> Answer
 
 fn vertex_count(bytes: &[u8], at: usize, counts: Counts) -> Answer
     requires { ⌜ at + 4 ≤ length (now bytes) ⌝ }
-    ensures { λ r. ⌜ ((b : Book) → counts ≡ Book·counts b → r ≡ answer (taken VertexCount (now (bytes .entry)) b at)) ⌝ }
+    ensures { λ r. ⌜ ((b : Book) → counts ≡ Book·counts b → r ≡ readAs (taken VertexCount (now (bytes .entry)) b at)) ⌝ }
 {
     let n = wide(bytes[at + 3]);
     if n < 1 {
@@ -144,7 +144,7 @@ fn arc(bytes: &[u8], at: usize, counts: Counts, weights: &mut [u32; PAIRS]) -> A
     requires { ⌜ at + 9 ≤ length (now bytes) ⌝ }
     requires { ⌜ counts .vertices ≤ mostVertices ⌝ }
     requires { ⌜ counts .arcs ≤ at ⌝ }
-    ensures { λ r. ⌜ ((b : Book) → counts ≡ Book·counts b → WellFormed b → now (weights .entry) ≡ weightTable (b .arcs) → (r ≡ answer (taken Arc (now (bytes .entry)) b at)) × (now (weights .exit) ≡ weightTable (kept b (taken Arc (now (bytes .entry)) b at) .arcs))) ⌝ }
+    ensures { λ r. ⌜ ((b : Book) → counts ≡ Book·counts b → WellFormed b → now (weights .entry) ≡ weightTable (b .arcs) → (r ≡ readAs (taken Arc (now (bytes .entry)) b at)) × (now (weights .exit) ≡ weightTable (kept b (taken Arc (now (bytes .entry)) b at) .arcs))) ⌝ }
 {
     let tail = wide(bytes[at + 3]);
     let head = wide(bytes[at + 4]);
@@ -167,7 +167,7 @@ fn arc(bytes: &[u8], at: usize, counts: Counts, weights: &mut [u32; PAIRS]) -> A
 
 fn rule_set(bytes: &[u8], at: usize, counts: Counts, flags: &mut [u16; MOST_SETS]) -> Answer
     requires { ⌜ at + 5 ≤ length (now bytes) ⌝ }
-    ensures { λ r. ⌜ ((b : Book) → counts ≡ Book·counts b → now (flags .entry) ≡ flagTable (b .sets) → (r ≡ answer (taken RuleSet (now (bytes .entry)) b at)) × (now (flags .exit) ≡ flagTable (kept b (taken RuleSet (now (bytes .entry)) b at) .sets))) ⌝ }
+    ensures { λ r. ⌜ ((b : Book) → counts ≡ Book·counts b → now (flags .entry) ≡ flagTable (b .sets) → (r ≡ readAs (taken RuleSet (now (bytes .entry)) b at)) × (now (flags .exit) ≡ flagTable (kept b (taken RuleSet (now (bytes .entry)) b at) .sets))) ⌝ }
 {
     let k = counts.sets;
     if MOST_SETS <= k {
@@ -253,7 +253,7 @@ fn path(
     requires { ⌜ endAt (now bytes) at ≤ length (now bytes) ⌝ }
     requires { ⌜ lengthAt (now bytes) at ≤ 8 ⌝ }
     requires { ⌜ 1 ≤ counts .sets ⌝ }
-    ensures { λ r. ⌜ ((b : Book) → counts ≡ Book·counts b → WellFormed b → now (owners .entry) ≡ ownerTable (b .sets) → now (entries .entry) ≡ pathTable (b .sets) → (r ≡ answer (taken Path (now (bytes .entry)) b at)) × (now (owners .exit) ≡ ownerTable (kept b (taken Path (now (bytes .entry)) b at) .sets)) × (now (entries .exit) ≡ pathTable (kept b (taken Path (now (bytes .entry)) b at) .sets))) ⌝ }
+    ensures { λ r. ⌜ ((b : Book) → counts ≡ Book·counts b → WellFormed b → now (owners .entry) ≡ ownerTable (b .sets) → now (entries .entry) ≡ pathTable (b .sets) → (r ≡ readAs (taken Path (now (bytes .entry)) b at)) × (now (owners .exit) ≡ ownerTable (kept b (taken Path (now (bytes .entry)) b at) .sets)) × (now (entries .exit) ≡ pathTable (kept b (taken Path (now (bytes .entry)) b at) .sets))) ⌝ }
 {
     let end = field_end(bytes, at);
     let from = at + 3;
@@ -288,7 +288,7 @@ pub fn field(
     requires { ⌜ at < length (now bytes) ⌝ }
     requires { ⌜ counts .vertices ≤ mostVertices ⌝ }
     requires { ⌜ counts .arcs ≤ at ⌝ }
-    ensures { λ r. ⌜ ((b : Book) → counts ≡ Book·counts b → WellFormed b → Tables b (now (weights .entry)) (now (flags .entry)) (now (owners .entry)) (now (entries .entry)) → (r ≡ answer (Reading·field (now (bytes .entry)) b at)) × Tables (kept b (Reading·field (now (bytes .entry)) b at)) (now (weights .exit)) (now (flags .exit)) (now (owners .exit)) (now (entries .exit))) ⌝ }
+    ensures { λ r. ⌜ ((b : Book) → counts ≡ Book·counts b → WellFormed b → Tables b (now (weights .entry)) (now (flags .entry)) (now (owners .entry)) (now (entries .entry)) → (r ≡ readAs (Reading·field (now (bytes .entry)) b at)) × Tables (kept b (Reading·field (now (bytes .entry)) b at)) (now (weights .exit)) (now (flags .exit)) (now (owners .exit)) (now (entries .exit))) ⌝ }
 {
     let framed = frame(bytes, at, counts);
     let Answer::Read(_) = framed else {

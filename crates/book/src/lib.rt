@@ -3,7 +3,7 @@ ghost use mathlib.Core.Path.{_≡_};
 ghost use mathlib.Core.Bool.{true, false};
 ghost use Rattle.book.specs.Refusal.{numberOf};
 ghost use Rattle.book.specs.Book.{Book};
-ghost use Rattle.book.specs.Reading.{reading, answer, accepted};
+ghost use Rattle.book.specs.Reading.{reading, readAs, accepted};
 ghost use Rattle.book.specs.Tables.{Blank, Tables};
 
 mod field;
@@ -106,7 +106,7 @@ pub enum Kind {
 
 // Reads a book: its counts, or its refusal.
 pub fn read(bytes: &[u8]) -> Answer
-    ensures { λ r. ⌜ r ≡ answer (reading (now (bytes .entry))) ⌝ }
+    ensures { λ r. ⌜ r ≡ readAs (reading (now (bytes .entry))) ⌝ }
 {
     let mut weights = [NO_ARC; PAIRS];
     let mut flags = [0u16; MOST_SETS];
@@ -124,7 +124,7 @@ pub fn load(
     entries: &mut [u8; AREA],
 ) -> Answer
     requires { ⌜ Blank (now weights) (now flags) (now owners) (now entries) ⌝ }
-    ensures { λ r. ⌜ r ≡ answer (reading (now (bytes .entry))) ⌝ }
+    ensures { λ r. ⌜ r ≡ readAs (reading (now (bytes .entry))) ⌝ }
     ensures { λ r. ⌜ ((b : Book) → reading (now (bytes .entry)) ≡ accepted b → Tables b (now (weights .exit)) (now (flags .exit)) (now (owners .exit)) (now (entries .exit))) ⌝ }
 {
     if bytes.len() == 0 {

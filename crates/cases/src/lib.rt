@@ -39,13 +39,6 @@ pub fn next_case(buffer: &mut [u8]) -> Next
     Next::Case(size)
 }
 
-// Two bytes as a number, high byte first.
-pub fn word(high: u8, low: u8) -> u16
-    ensures { λ r. ⌜ r ≡ high * 256 + low ⌝ }
-{
-    (high as u16) * 256 + (low as u16)
-}
-
 // Four bytes as a number, high byte first.
 pub fn long(a: u8, b: u8, c: u8, d: u8) -> usize
     ensures { λ r. ⌜ r ≡ ((a * 256 + b) * 256 + c) * 256 + d ⌝ }

@@ -14,7 +14,7 @@ use Rattle.examples.specs.Books.{bytesA, bookA, book-A, bytesWays, bookW
 use Rattle.book.specs.Reading.{accepted, reading, bookIn}
 use Rattle.book.specs.RefusalLaws.{hold→none}
 use Rattle.examples.specs.Walks.{Plan, marks-0, marks-1, marks-2, marks-3, back, stay, lower-vertex, fewer-hops}
-use Rattle.rules.specs.Binding.{covers, bound, known}
+use Rattle.rules.specs.Binding.{covers, applied, known}
 use Rattle.rules.specs.BindingLaws.{known-paths}
 use Rattle.rules.specs.Operations.{Binding, binding, areaAfter}
 use Rattle.rules.specs.Laws.{bind-accepted}
@@ -68,7 +68,7 @@ pub record Sums : Type 0 where
   pub fewer-hops : (flags : ℕ) → Gives bytesShortcut flags 0 3 (Walk 200 1) (0 ∷ 3 ∷ [])
 
 pub sums : Sums
-unfolding covers bound
+unfolding covers applied
 sums =
     record {
       marks-0 = walk-given bytesA bookA book-A 0 0 3 refl refl _ 300 3 marks-0;

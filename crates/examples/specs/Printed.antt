@@ -5,7 +5,7 @@ use mathlib.Core.List.{List, [], _∷_}
 use mathlib.Core.Logic.{inl, inr}
 use Rattle.examples.specs.Walks.{marks-3, back}
 use Rattle.examples.specs.Books.{bytesA, book-A, count-65}
-use Rattle.rules.specs.Binding.{covers, bound}
+use Rattle.rules.specs.Binding.{covers, applied}
 use Rattle.answer.specs.Text.{digits, followed}
 use Rattle.answer.specs.Answer.{AnsweredOf, Answered}
 use Rattle.answer.specs.AnswerLaws.{Answered-unique}
@@ -25,7 +25,7 @@ listing =
     ∷ []
 
 pub listing-printed : Prints (0 ∷ 3 ∷ 0 ∷ 3 ∷ bytesA) listing
-unfolding digits followed covers bound
+unfolding digits followed covers applied
 listing-printed =
     prints (0 ∷ 3 ∷ 0 ∷ 3 ∷ bytesA) listing (subst (λ x. AnsweredOf x 3 0 3 listing) (sym book-A) (inl (_, marks-3 .best, refl)))
 
@@ -34,7 +34,7 @@ abbrev nothing : List ℕ
 nothing = 78 ∷ 79 ∷ 78 ∷ 69 ∷ 10 ∷ []
 
 pub none-printed : Prints (0 ∷ 0 ∷ 3 ∷ 0 ∷ bytesA) nothing
-unfolding covers bound
+unfolding covers applied
 none-printed = prints (0 ∷ 0 ∷ 3 ∷ 0 ∷ bytesA) nothing (subst (λ x. AnsweredOf x 0 3 0 nothing) (sym book-A) (inr (back, refl)))
 
 -- Start 4: `REFUSED 7`

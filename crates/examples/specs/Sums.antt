@@ -17,11 +17,11 @@ use Rattle.book.specs.Refusal.{numberOf, refusalBy}
 use Rattle.book.specs.RefusalLaws.{hold→none}
 use Rattle.book.specs.Book.{Book, WellFormed, allPaths, graph, isPath, simple, names}
 use Rattle.book.specs.BookLaws.{reading-is-book}
-use Rattle.book.specs.Reading.{accepted, reading, answer}
+use Rattle.book.specs.Reading.{accepted, reading, readAs}
 use Rattle.examples.specs.Books.{bytesA, bookA, book-A, bytesWays, bookWays, book-ways, bytesShortcut, bookShortcut, book-shortcut, count-64, count-65, no-body}
 use Rattle.automaton.specs.Chosen.{chosen}
 use Rattle.examples.specs.Walks.{marks-3, named-123, named-13}
-use Rattle.rules.specs.Binding.{covers, bound, known, once}
+use Rattle.rules.specs.Binding.{covers, applied, known, once}
 use Rattle.limits.specs.Limits.{areaSize, longest}
 use Rattle.rules.specs.Operations.{Binding, outcome, bindTests, bindingOf, binding, areaAfter}
 use Rattle.planner.specs.declared.Outcome.{Outcome}
@@ -107,7 +107,7 @@ after-13 paths walk =
 
 -- Reading is refused under 01's number n, at a byte.
 abbrev pub Refuses : List ℕ → ℕ → ℕ → Type 0
-Refuses s n at = (x : Refusal) × (answer (reading s) ≡ Answer.Refused x) × (numberOf x ≡ record { number = n; placed = true; place = at })
+Refuses s n at = (x : Refusal) × (readAs (reading s) ≡ Answer.Refused x) × (numberOf x ≡ record { number = n; placed = true; place = at })
 
 -- ---- the list
 pub record Sums : Type 0 where
@@ -130,7 +130,7 @@ pub record Sums : Type 0 where
   pub lower-vertex : (flags : ℕ) → Plans bytesWays flags 0 3 (Walk 200 2) (0 ∷ 1 ∷ 3 ∷ [])
   pub fewer-hops : (flags : ℕ) → Plans bytesShortcut flags 0 3 (Walk 200 1) (0 ∷ 3 ∷ [])
   -- Bytes 01 00 01 40 are read; 01 00 01 41 is 4 at 0; 01 00 01 is 1 at 0.
-  pub count-64 : answer (reading (0x01 ∷ 0x00 ∷ 0x01 ∷ 0x40 ∷ [])) ≡ Read (record { vertices = 64; arcs = 0; sets = 0; paths = 0 })
+  pub count-64 : readAs (reading (0x01 ∷ 0x00 ∷ 0x01 ∷ 0x40 ∷ [])) ≡ Read (record { vertices = 64; arcs = 0; sets = 0; paths = 0 })
   pub count-65 : Refuses (0x01 ∷ 0x00 ∷ 0x01 ∷ 0x41 ∷ []) 4 0
   pub no-body : Refuses (0x01 ∷ 0x00 ∷ 0x01 ∷ []) 1 0
 
@@ -189,7 +189,7 @@ module _ (paths walk : List ℕ) (fits : areaSize ≤ length paths) (long : long
   opens = hold→none (beginTests graphA 0 3 paths walk) (le-leb areaSize (length paths) fits, (le-leb longest (length walk) long, (refl, (refl, tt))))
 
   pub first-is : firstState bookA 3 0 3 paths walk ≡ σ₀
-  unfolding covers bound isForbiddenSet once isPath simple names
+  unfolding covers applied isForbiddenSet once isPath simple names
   first-is =
       ap (λ (p : Option (List ℕ)). holding graphA p (σ₀ .forbidden) 0 3 2 0 (drop areaSize paths) walk)
       (plan-best plannerA (isForbiddenSet→ 4 (σ₀ .forbidden) tt) (omega arith) (omega arith) (marks-3 .best))
@@ -262,7 +262,7 @@ sums =
       stay = λ flags. plans bytesA bookA book-A flags 3 3 (Walk 0 0) (3 ∷ []) (planning .stay flags);
       lower-vertex = λ flags. plans bytesWays bookWays book-ways flags 0 3 (Walk 200 2) (0 ∷ 1 ∷ 3 ∷ []) (planning .lower-vertex flags);
       fewer-hops = λ flags. plans bytesShortcut bookShortcut book-shortcut flags 0 3 (Walk 200 1) (0 ∷ 3 ∷ []) (planning .fewer-hops flags);
-      count-64 = ap answer count-64;
-      count-65 = (Value 0, ap answer count-65, refl);
-      no-body = (Truncated 0, ap answer no-body, refl);
+      count-64 = ap readAs count-64;
+      count-65 = (Value 0, ap readAs count-65, refl);
+      no-body = (Truncated 0, ap readAs no-body, refl);
     }

@@ -12,7 +12,7 @@ use Rattle.book.specs.declared.Refusal.the-variants.{Ended, NotStanding}
 use Rattle.book.specs.Refusal.{refusalBy}
 use Rattle.book.specs.Book.{isPath, simple, names}
 use Rattle.examples.specs.Books.{bookA}
-use Rattle.rules.specs.Binding.{covers, bound, once}
+use Rattle.rules.specs.Binding.{covers, applied, once}
 use Rattle.limits.specs.Limits.{areaSize, longest}
 use Rattle.trial_rules.specs.Trials.{passed, failed, State, Valid, Begin, EachAccepted, run, refusal, oracleTests, isValid, isForbiddenSet, isRecord}
 use Rattle.trial_rules.specs.Tests.{isForbiddenSet→, isValid→Valid}
@@ -32,7 +32,7 @@ module _ (paths walk : List ℕ) (fits : areaSize ≤ length paths) (long : long
 
   -- The oracle with these two paths is true, in reports that name them.
   pub oracle-set : OracleSet trialsA oracles
-  unfolding covers bound isForbiddenSet once isPath simple names lacking
+  unfolding covers applied isForbiddenSet once isPath simple names lacking
   oracle-set = record { taken = isForbiddenSet→ 4 oracles tt .taken; few = omega arith }
 
   pub oracle-true : TrueOracle trialsA oracles (failed (1 ∷ 2 ∷ 3 ∷ []) ∷ failed (1 ∷ 3 ∷ []) ∷ [])

@@ -3,8 +3,8 @@ use book::Refusal;
 use cases::number;
 use cases::refusal;
 use cases::text;
-use cases::word;
 use limits::AREA;
+use lists::u16_from;
 use lists::wide;
 use rules::Bound;
 use rules::Checked;
@@ -15,7 +15,7 @@ pub fn check_case(input: &[u8]) {
         refusal(Refusal::Truncated(0));
         return;
     }
-    let flags = word(input[0], input[1]);
+    let flags = u16_from(input[0], input[1]);
     let length = wide(input[2]) * 256 + wide(input[3]);
     if size - 4 < length {
         refusal(Refusal::Truncated(0));

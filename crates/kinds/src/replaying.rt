@@ -10,10 +10,10 @@ use cases::number;
 use cases::refusal;
 use cases::same_answer;
 use cases::text;
-use cases::word;
 use cases::write_walk;
 use limits::AREA;
 use limits::LONGEST;
+use lists::u16_from;
 use lists::wide;
 use series::Made;
 use trial_record::Record;
@@ -27,7 +27,7 @@ pub fn replay_case(input: &[u8]) {
         refusal(Refusal::Truncated(0));
         return;
     }
-    let flags = word(input[0], input[1]);
+    let flags = u16_from(input[0], input[1]);
     let length = long(input[4], input[5], input[6], input[7]);
     if size - 8 < length {
         refusal(Refusal::Truncated(0));

@@ -12,7 +12,7 @@ use Rattle.book.specs.Book.{RuleSet, Book, All, allPaths}
 use Rattle.book.specs.BookLaws.{all-snoc}
 use Rattle.book.specs.Loaded.{sets-short}
 use Rattle.book.specs.Tables.{IsSets, entry, entries, flagsOf, ownersFrom, ownerTable}
-use Rattle.rules.specs.Binding.{covers, bound, member, add, known}
+use Rattle.rules.specs.Binding.{covers, applied, member, add, known}
 use Rattle.rules.specs.Area.{written, blocks}
 use Rattle.limits.specs.Limits.{areaSize}
 use Rattle.book.specs.EntryLaws.{Short, length-owners}
@@ -47,19 +47,19 @@ module _ (flags : ℕ) (fs : List ℕ) where
       inside false = refl
 
   pub collect-bound : (ss : List RuleSet) (k : ℕ) (F : List (List ℕ)) → drop k fs ≡ flagsOf ss
-      → collect F (ownersFrom k ss) (allPaths ss) ≡ foldl add F (bound flags ss)
-  unfolding collect ownersFrom allPaths bound
+      → collect F (ownersFrom k ss) (allPaths ss) ≡ foldl add F (applied flags ss)
+  unfolding collect ownersFrom allPaths applied
   collect-bound [] k F e = refl
   collect-bound (s ∷ ss) k F e =
       let here : getD fs k 0 ≡ s .flags = ap (λ i. getD fs i 0) (sym (add-zero k)) ∙ sym (getD-drop k fs 0 0) ∙ ap (λ l. getD l 0 0) e in
       let later : drop (suc k) fs ≡ flagsOf ss = ap (λ i. drop i fs) (sym (add-one k)) ∙ sym (drop-drop 1 k fs) ∙ ap (drop 1) e in
       collect-set F k (ownersFrom (suc k) ss) (s .paths) (allPaths ss)
       ∙ collect-bound ss (suc k) (cond (chosen k) (foldl add F (s .paths)) F) later
-      ∙ ap (λ n. foldl add (cond (covers 16 n flags) (foldl add F (s .paths)) F) (bound flags ss)) here
+      ∙ ap (λ n. foldl add (cond (covers 16 n flags) (foldl add F (s .paths)) F) (applied flags ss)) here
       ∙ fold (covers 16 (s .flags) flags)
     where
-      fold : (x : Bool) → foldl add (cond x (foldl add F (s .paths)) F) (bound flags ss) ≡ foldl add F (cond x (s .paths) [] ++ bound flags ss)
-      fold true = sym (foldl-append add F (s .paths) (bound flags ss))
+      fold : (x : Bool) → foldl add (cond x (foldl add F (s .paths)) F) (applied flags ss) ≡ foldl add F (cond x (s .paths) [] ++ applied flags ss)
+      fold true = sym (foldl-append add F (s .paths) (applied flags ss))
       fold false = refl
 
   -- one path

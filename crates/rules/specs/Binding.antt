@@ -17,9 +17,9 @@ abbrev pub applies : ℕ → RuleSet → Bool
 applies flags s = covers 16 (s .flags) flags
 
 -- The paths of the rule sets that apply, in the book's order, repeated ones too.
-unfoldable pub bound : ℕ → List RuleSet → List (List ℕ)
-bound flags [] = []
-bound flags (s ∷ ss) = cond (applies flags s) (s .paths) [] ++ bound flags ss
+unfoldable pub applied : ℕ → List RuleSet → List (List ℕ)
+applied flags [] = []
+applied flags (s ∷ ss) = cond (applies flags s) (s .paths) [] ++ applied flags ss
 
 -- p is one of the paths of F.
 abbrev pub member : List ℕ → List (List ℕ) → Bool
@@ -35,7 +35,7 @@ distinct ps = foldl add [] ps
 
 -- 01: the known runs of a batch with these flags.
 abbrev pub known : ℕ → List RuleSet → List (List ℕ)
-known flags ss = distinct (bound flags ss)
+known flags ss = distinct (applied flags ss)
 
 -- No path of F is repeated.
 unfoldable pub once : List (List ℕ) → Bool

@@ -7,7 +7,7 @@ use native.Mathlib.Omega.{arith}
 use lib.ListN.{length, length-append}
 use Rattle.book.specs.Book.{RuleSet, Book, All, IsPath, WellFormed, allPaths}
 use Rattle.book.specs.BookLaws.{all-map}
-use Rattle.rules.specs.Binding.{applies, bound, known, once}
+use Rattle.rules.specs.Binding.{applies, applied, known, once}
 use Rattle.book.specs.EntryLaws.{Short}
 use Rattle.rules.specs.Sets.{distinct-once, distinct-length, distinct-all}
 
@@ -24,20 +24,20 @@ module _ (P : List ℕ → Type 0) where
   all-append [] G h k = k
   all-append (p ∷ F) G h k = (h .0, all-append F G (h .1) k)
 
-  pub bound-all : (flags : ℕ) (ss : List RuleSet) → All P (allPaths ss) → All P (bound flags ss)
-  unfolding allPaths bound
+  pub bound-all : (flags : ℕ) (ss : List RuleSet) → All P (allPaths ss) → All P (applied flags ss)
+  unfolding allPaths applied
   bound-all flags [] h = tt
-  bound-all flags (s ∷ ss) h = all-append (cond (applies flags s) (s .paths) []) (bound flags ss) (own (applies flags s)) (bound-all flags ss (all-right (s .paths) (allPaths ss) h))
+  bound-all flags (s ∷ ss) h = all-append (cond (applies flags s) (s .paths) []) (applied flags ss) (own (applies flags s)) (bound-all flags ss (all-right (s .paths) (allPaths ss) h))
     where
       own : (x : Bool) → All P (cond x (s .paths) [])
       own true = all-left (s .paths) (allPaths ss) h
       own false = tt
 
   pub known-all : (flags : ℕ) (ss : List RuleSet) → All P (allPaths ss) → All P (known flags ss)
-  known-all flags ss h = distinct-all P (bound flags ss) [] tt (bound-all flags ss h)
+  known-all flags ss h = distinct-all P (applied flags ss) [] tt (bound-all flags ss h)
 
-bound-length : (flags : ℕ) (ss : List RuleSet) → length (bound flags ss) ≤ length (allPaths ss)
-unfolding allPaths bound
+bound-length : (flags : ℕ) (ss : List RuleSet) → length (applied flags ss) ≤ length (allPaths ss)
+unfolding allPaths applied
 bound-length flags [] = omega arith
 bound-length flags (s ∷ ss) = simp length-append (omega (arith, own (applies flags s), bound-length flags ss))
   where
@@ -48,7 +48,7 @@ bound-length flags (s ∷ ss) = simp length-append (omega (arith, own (applies f
 -- The known paths of a book are at most 256 different paths by its rules.
 module _ (flags : ℕ) (b : Book) (w : WellFormed b) where
   pub known-few : length (known flags (b .sets)) ≤ 256
-  known-few = omega (arith, distinct-length (bound flags (b .sets)) [], bound-length flags (b .sets), w .few-paths)
+  known-few = omega (arith, distinct-length (applied flags (b .sets)) [], bound-length flags (b .sets), w .few-paths)
 
   pub known-paths : All (IsPath (b .count)) (known flags (b .sets))
   known-paths = known-all (IsPath (b .count)) flags (b .sets) (w .paths-proper)
@@ -58,4 +58,4 @@ module _ (flags : ℕ) (b : Book) (w : WellFormed b) where
 
   pub known-once : once (known flags (b .sets)) ≡ true
   unfolding once
-  known-once = distinct-once (bound flags (b .sets)) [] refl
+  known-once = distinct-once (applied flags (b .sets)) [] refl

@@ -18,7 +18,7 @@ use Rattle.book.specs.BookLaws.{reading-is-book}
 use Rattle.book.specs.Reading.{Reading, reading, refusalOf}
 use Rattle.rules.specs.declared.Checked.{Checked}
 use Rattle.rules.specs.declared.Checked.the-variants.{Clear}
-use Rattle.rules.specs.Binding.{applies, bound, known, once}
+use Rattle.rules.specs.Binding.{applies, applied, known, once}
 use Rattle.rules.specs.Area.{written, spelled, valid}
 use Rattle.limits.specs.Limits.{areaSize}
 use Rattle.rules.specs.Checking.{checkable, occurrence}
@@ -37,11 +37,11 @@ pub record Applied (flags : ℕ) (ss : List RuleSet) (r : List ℕ) : Type 0 whe
   pub path : List·Memᴰ r (set .paths)
 
 module _ (flags : ℕ) {r : List ℕ} where
-  bound→Applied : (ss : List RuleSet) → List·Memᴰ r (bound flags ss) → Applied flags ss r
-  unfolding bound
-  bound→Applied [] m = absurd (List·Memᴰ·not-nil m)
-  bound→Applied (s ∷ ss) m =
-      ⊎-elim (λ here. own (applies flags s) refl here) (λ there. later (bound→Applied ss there)) (List·Memᴰ·append-cases (cond (applies flags s) (s .paths) []) m)
+  applied→Applied : (ss : List RuleSet) → List·Memᴰ r (applied flags ss) → Applied flags ss r
+  unfolding applied
+  applied→Applied [] m = absurd (List·Memᴰ·not-nil m)
+  applied→Applied (s ∷ ss) m =
+      ⊎-elim (λ here. own (applies flags s) refl here) (λ there. later (applied→Applied ss there)) (List·Memᴰ·append-cases (cond (applies flags s) (s .paths) []) m)
     where
       own : (x : Bool) → applies flags s ≡ x → List·Memᴰ r (cond x (s .paths) []) → Applied flags (s ∷ ss) r
       own true e k = record { set = s; listed = List·Memᴰ·head refl; applying = e; path = k }
@@ -50,18 +50,18 @@ module _ (flags : ℕ) {r : List ℕ} where
       later : Applied flags ss r → Applied flags (s ∷ ss) r
       later a = record { set = a .set; listed = List·Memᴰ·tail (a .listed); applying = a .applying; path = a .path }
 
-  Applied→bound : {s : RuleSet} {ss : List RuleSet} → List·Memᴰ s ss → applies flags s ≡ true → List·Memᴰ r (s .paths) → List·Memᴰ r (bound flags ss)
-  unfolding bound
-  Applied→bound {s} (List·Memᴰ·head {x = t} {xs = ss} e) a m =
-      Memᴰ·append-left (bound flags ss)
+  Applied→applied : {s : RuleSet} {ss : List RuleSet} → List·Memᴰ s ss → applies flags s ≡ true → List·Memᴰ r (s .paths) → List·Memᴰ r (applied flags ss)
+  unfolding applied
+  Applied→applied {s} (List·Memᴰ·head {x = t} {xs = ss} e) a m =
+      Memᴰ·append-left (applied flags ss)
       (subst (λ x. List·Memᴰ r (cond x (t .paths) [])) (sym (sym (ap (applies flags) e) ∙ a)) (subst (λ (u : RuleSet). List·Memᴰ r (u .paths)) e m))
-  Applied→bound (List·Memᴰ·tail {x = t} {xs = ss} k) a m = Memᴰ·append-right (cond (applies flags t) (t .paths) []) (Applied→bound k a m)
+  Applied→applied (List·Memᴰ·tail {x = t} {xs = ss} k) a m = Memᴰ·append-right (cond (applies flags t) (t .paths) []) (Applied→applied k a m)
 
   pub known→Applied : (ss : List RuleSet) → List·Memᴰ r (known flags ss) → Applied flags ss r
-  known→Applied ss m = ⊎-elim (λ k. absurd (List·Memᴰ·not-nil k)) (bound→Applied ss) (distinct→listed (bound flags ss) [] m)
+  known→Applied ss m = ⊎-elim (λ k. absurd (List·Memᴰ·not-nil k)) (applied→Applied ss) (distinct→listed (applied flags ss) [] m)
 
   pub Applied→known : (ss : List RuleSet) → Applied flags ss r → List·Memᴰ r (known flags ss)
-  Applied→known ss a = listed→distinct (Applied→bound (a .listed) (a .applying) (a .path)) []
+  Applied→known ss a = listed→distinct (Applied→applied (a .listed) (a .applying) (a .path)) []
 
 -- ---- the order of the rule sets does not matter
 permuted : {s : RuleSet} {ss ts : List RuleSet} → List·Permᴰ ss ts → List·Memᴰ s ss → List·Memᴰ s ts

@@ -34,14 +34,14 @@ returns c =
       bytes-are = front .1;
     }
 
-shared-slice-read-flags-of : tie.Need-shared-slice-read-flags-of
-shared-slice-read-flags-of c = search needs
+shared-slice-read-u16-from : tie.Need-shared-slice-read-u16-from
+shared-slice-read-u16-from c = search needs
 
-shared-slice-read-flags-of-2 : tie.Need-shared-slice-read-flags-of-2
-shared-slice-read-flags-of-2 c = search needs
+shared-slice-read-u16-from-2 : tie.Need-shared-slice-read-u16-from-2
+shared-slice-read-u16-from-2 c = search needs
 
-flags-of-requires : tie.Need-flags-of-requires
-flags-of-requires c κs = search needs
+u16-from-requires : tie.Need-u16-from-requires
+u16-from-requires c κs = search needs
 
 sub-answer-book : tie.Need-sub-answer-book
 sub-answer-book c = search needs
@@ -73,8 +73,8 @@ returns-2 c =
     let wrote = call .answer-book .ensures in
     let front = wrote-front (wrote .wrote) in
     let is : AnsweredBy true s (wrote .text) =
-    subst (λ n. AnsweredOf (reading (drop 4 s)) n (getD s 2 0) (getD s 3 0) (wrote .text)) (flags .flags-of .ensures)
-    (subst (λ b. AnsweredOf (reading b) (flags .flags-of .result) (getD s 2 0) (getD s 3 0) (wrote .text)) (part-rest 4 s) (wrote .is)) in
+    subst (λ n. AnsweredOf (reading (drop 4 s)) n (getD s 2 0) (getD s 3 0) (wrote .text)) (flags .u16-from .ensures)
+    (subst (λ b. AnsweredOf (reading b) (flags .u16-from .result) (getD s 2 0) (getD s 3 0) (wrote .text)) (part-rest 4 s) (wrote .is)) in
     record {
       text = wrote .text;
       answered = subst (λ x. AnsweredBy x s (wrote .text)) (sym (le-leb 4 (length s) (long .if1 .left))) is;
@@ -89,9 +89,9 @@ answer-in-spec =
     refusal-text-requires
     same-length
     returns
-    shared-slice-read-flags-of
-    shared-slice-read-flags-of-2
-    flags-of-requires
+    shared-slice-read-u16-from
+    shared-slice-read-u16-from-2
+    u16-from-requires
     sub-answer-book
     part-answer-book-start
     part-answer-book-end

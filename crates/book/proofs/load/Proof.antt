@@ -7,7 +7,7 @@ use native.Mathlib.Omega.{arith}
 use lib.ListN.{length}
 use Rattle.book.specs.declared.Answer.the-variants.{Read}
 use Rattle.book.specs.declared.Counts.{Counts}
-use Rattle.book.specs.Reading.{answer, reading}
+use Rattle.book.specs.Reading.{readAs, reading}
 use Rattle.book.specs.Tables.{Tables}
 use Rattle.book.proofs.Loop.{Reached, nothing, started, finished, stopped, within, onward, not-both, same-book}
 use Rattle.book.proofs.load.Statement.{statement}
@@ -35,7 +35,7 @@ returns : tie.Need-returns Inv-loop μ-loop
 returns c =
     let s = now (c .before .before .args .bytes) in
     let is = nothing s (c .if1 .taken) in
-    (sym (ap answer is), λ b e. absurd (not-both (reading s) b _ e is))
+    (sym (ap readAs is), λ b e. absurd (not-both (reading s) b _ e is))
 
 loop-holds : tie.Need-loop-holds Inv-loop μ-loop
 loop-holds c =
@@ -57,7 +57,7 @@ returns-2 c =
     let r = reached here in
     let done = here .field .ensures (r .book) (r .so-far) (r .well) (r .tables) in
     let is = stopped _ _ _ _ _ _ _ r (here .before .before .before .before .before .loop-test .taken) _ (done .0) _ (c .enum-told .given .1) in
-    (c .enum-told .given .1 ∙ sym (ap answer is), λ b e. absurd (not-both _ b _ e is))
+    (c .enum-told .given .1 ∙ sym (ap readAs is), λ b e. absurd (not-both _ b _ e is))
 
 field-end-requires : tie.Need-field-end-requires Inv-loop μ-loop
 field-end-requires c κs =
@@ -83,7 +83,7 @@ returns-3 : tie.Need-returns-3 Inv-loop μ-loop
 returns-3 c =
     let r = c .before .loop .inv in
     let is = finished _ _ _ _ _ _ _ r (c .loop-test .left) in (
-      ap Read (r .so-far) ∙ sym (ap answer is),
+      ap Read (r .so-far) ∙ sym (ap readAs is),
       λ b e. subst (λ x. Tables x (c .before .loop .weights) (c .before .loop .flags) (c .before .loop .owners) (c .before .loop .entries))
           (same-book (r .book) b (sym is ∙ e)) (r .tables),
     )

@@ -14,7 +14,7 @@ use Rattle.book.specs.declared.Kind.the-variants.{VertexCount, Arc, Rule
 use Rattle.lists.specs.Test.{and-true}
 use Rattle.book.specs.Book.{Book, counts}
 use Rattle.book.specs.BookLaws.{not-zero}
-use Rattle.book.specs.Reading.{answer, lengthAt, taken, kept, field}
+use Rattle.book.specs.Reading.{readAs, lengthAt, taken, kept, field}
 use Rattle.book.specs.Tables.{Tables}
 use Rattle.book.proofs.Fields.{Framed, framed-passed, field-refused, field-taken, tables-count, tables-arc, tables-set, tables-path}
 use Rattle.book.proofs.field.field.Statement.{statement}
@@ -62,20 +62,20 @@ whole c k is =
 finish : (c : tie.After-kind-of) (k : Kind) → c .kind-of .result ≡ k
     → let a = c .before .before .before .before .before .before .args in
     (b : Book) → a .counts ≡ counts b → (x : Answer) (w f o p : List ℕ)
-    → x ≡ answer (taken k (now (a .bytes)) b (a .at)) → Tables (kept b (taken k (now (a .bytes)) b (a .at))) w f o p
-    → (x ≡ answer (field (now (a .bytes)) b (a .at))) × Tables (kept b (field (now (a .bytes)) b (a .at))) w f o p
+    → x ≡ readAs (taken k (now (a .bytes)) b (a .at)) → Tables (kept b (taken k (now (a .bytes)) b (a .at))) w f o p
+    → (x ≡ readAs (field (now (a .bytes)) b (a .at))) × Tables (kept b (field (now (a .bytes)) b (a .at))) w f o p
 finish c k is b so-far x w f o p answers tables =
     let told = c .before .before in
     let a = told .before .before .before .before .args in
     let same : taken k (now (a .bytes)) b (a .at) ≡ field (now (a .bytes)) b (a .at) =
     sym (field-taken (now (a .bytes)) (a .at) (a .counts) b so-far _ k (sym (told .before .before .frame .ensures) ∙ told .enum-told .given .1) (sym is ∙ c .kind-of .ensures)) in
-    (answers ∙ ap answer same, subst (λ r. Tables (kept b r) w f o p) same tables)
+    (answers ∙ ap readAs same, subst (λ r. Tables (kept b r) w f o p) same tables)
 
 returns : tie.Need-returns
 returns c b so-far w held =
     let a = c .before .before .before .before .args in
     let is = sym (field-refused (now (a .bytes)) (a .at) (a .counts) b so-far _ (sym (c .before .before .frame .ensures) ∙ c .enum-told2 .given .1)) in (
-      c .enum-told2 .given .1 ∙ ap answer is,
+      c .enum-told2 .given .1 ∙ ap readAs is,
       subst (λ r. Tables (kept b r) (now (a .weights)) (now (a .flags)) (now (a .owners)) (now (a .entries))) is held,
     )
 

@@ -10,7 +10,7 @@ use Rattle.book.specs.declared.Answer.the-variants.{Read}
 use Rattle.book.specs.declared.Counts.{Counts}
 use Rattle.book.specs.declared.Kind.the-variants.{RuleSet}
 use Rattle.book.specs.declared.Refusal.the-variants.{TooMany}
-use Rattle.book.specs.Reading.{Reading, accepted, refused, answer, taken, kept, extended, flagsAt}
+use Rattle.book.specs.Reading.{Reading, accepted, refused, readAs, taken, kept, extended, flagsAt}
 use Rattle.book.specs.Tables.{flagTable}
 use Rattle.book.proofs.Taken.{taken-many, taken-whole}
 use Rattle.book.proofs.Added.{counts-set, flags-after-set}
@@ -41,7 +41,7 @@ returns c b so-far held =
     let s = now (a .bytes) in
     let many : taken RuleSet s b (a .at) ≡ refused (TooMany (a .at)) =
     taken-many RuleSet s b (a .at) refl refl (le-ltb (length (b .sets)) 16 (omega (arith, ap (λ (d : Counts). d .sets) so-far))) in
-    (sym (ap answer many), held ∙ ap (λ (r : Reading). flagTable (kept b r .sets)) (sym many))
+    (sym (ap readAs many), held ∙ ap (λ (r : Reading). flagTable (kept b r .sets)) (sym many))
 
 returns-2 : tie.Need-returns-2
 returns-2 c b so-far held =
@@ -50,7 +50,7 @@ returns-2 c b so-far held =
     let few : length (b .sets) < 16 = omega (arith, ap (λ (d : Counts). d .sets) so-far) in
     let whole : taken RuleSet s b (a .at) ≡ accepted (extended RuleSet s b (a .at)) =
     taken-whole RuleSet s b (a .at) refl refl (lt-ltb (length (b .sets)) 16 few) in (
-      ap Read (counts-set (a .counts) s b (a .at) so-far) ∙ sym (ap answer whole),
+      ap Read (counts-set (a .counts) s b (a .at) so-far) ∙ sym (ap readAs whole),
       flags-after-set (now (a .flags)) (a .counts .sets) (c .u16-at .result) (flagsAt s (a .at)) (b .sets) few held (ap (λ (d : Counts). d .sets) so-far) (c .u16-at .ensures .0)
           ∙ ap (λ (r : Reading). flagTable (kept b r .sets)) (sym whole),
     )

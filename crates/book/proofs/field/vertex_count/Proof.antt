@@ -5,7 +5,7 @@ use mathlib.Core.Path.{refl, sym, ap, _∙_}
 use native.Mathlib.Omega.{arith}
 use Rattle.book.specs.declared.Answer.the-variants.{Read}
 use Rattle.book.specs.declared.Kind.the-variants.{VertexCount}
-use Rattle.book.specs.Reading.{answer}
+use Rattle.book.specs.Reading.{readAs}
 use Rattle.book.proofs.Taken.{taken-value, taken-whole, count-low, count-high, count-proper}
 use Rattle.book.proofs.Added.{counts-count}
 use Rattle.book.proofs.field.vertex_count.Statement.{statement}
@@ -24,13 +24,13 @@ returns : tie.Need-returns
 returns c b so-far =
     let a = c .before .before .before .before .args in
     let s = now (a .bytes) in
-    sym (ap answer (taken-value VertexCount s b (a .at) (count-low s b (a .at) (omega (arith, c .before .wide .ensures .0)))))
+    sym (ap readAs (taken-value VertexCount s b (a .at) (count-low s b (a .at) (omega (arith, c .before .wide .ensures .0)))))
 
 returns-2 : tie.Need-returns-2
 returns-2 c b so-far =
     let a = c .before .before .before .before .before .args in
     let s = now (a .bytes) in
-    sym (ap answer (taken-value VertexCount s b (a .at) (count-high s b (a .at) (omega (arith, c .before .before .wide .ensures .0)))))
+    sym (ap readAs (taken-value VertexCount s b (a .at) (count-high s b (a .at) (omega (arith, c .before .before .wide .ensures .0)))))
 
 returns-3 : tie.Need-returns-3
 returns-3 c b so-far =
@@ -38,7 +38,7 @@ returns-3 c b so-far =
     let s = now (a .bytes) in
     let read = c .before .before .wide .ensures .0 in
     ap Read (counts-count (a .counts) s b (a .at) so-far _ read)
-    ∙ sym (ap answer (taken-whole VertexCount s b (a .at) (count-proper s b (a .at) (omega (arith, read)) (omega (arith, read))) refl refl))
+    ∙ sym (ap readAs (taken-whole VertexCount s b (a .at) (count-proper s b (a .at) (omega (arith, read)) (omega (arith, read))) refl refl))
 
 pub vertex-count-spec : {M : Type 1} → statement M
 vertex-count-spec =
