@@ -6,7 +6,7 @@ use native.Mathlib.Omega.{arith}
 use Rattle.walks.specs.Graph.{Graph}
 use Rattle.automaton.specs.Built.{Built}
 use Rattle.search.specs.Plan.{Prepared}
-use Rattle.search.specs.Weights.{Weights}
+use Rattle.walks.specs.Weights.{Weights}
 
 pub prepared : (g : Graph) (F : List (List ℕ)) (n m : ℕ) (weights steps marks latests : List ℕ)
     → g .count ≡ n → Weights g weights → Built F n m steps marks latests → Prepared g F n m weights steps marks latests

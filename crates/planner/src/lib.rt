@@ -8,7 +8,7 @@ ghost use Rattle.automaton.specs.Area.{Given, Spells, Bounded};
 ghost use Rattle.book.specs.Book.{Book, WellFormed};
 ghost use Rattle.book.specs.Tables.{weightTable};
 ghost use Rattle.search.specs.Plan.{Planned};
-ghost use Rattle.search.specs.Weights.{Weights};
+ghost use Rattle.walks.specs.Weights.{Weights};
 ghost use Rattle.planner.specs.Planning.{Planning, PlanningIn};
 use automaton::STATES;
 use automaton::STEPS;

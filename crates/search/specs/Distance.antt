@@ -22,7 +22,7 @@ use Rattle.automaton.specs.Follow.{Step}
 use Rattle.automaton.specs.Cost.{Cost, _≤ᶜ_, via}
 use Rattle.automaton.specs.Greedy.{Settled}
 use Rattle.automaton.specs.Built.{Built, Numbers}
-use Rattle.search.specs.Weights.{Weights}
+use Rattle.walks.specs.Weights.{Weights}
 use Rattle.search.specs.Product.{arcAt, stepTo, isOpen, edgeOver, stateEdges, Over, edges-over}
 use Rattle.search.specs.ProductLaws.{getD-mem, wordOf, Numbered, numbered, each-numbered, step-number, step-below, step-weight, step-edge, weighted}
 use Rattle.search.specs.Targets.{targets, at-targets, targets-are}

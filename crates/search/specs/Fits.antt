@@ -11,7 +11,7 @@ use Rattle.walks.specs.Graph.{Graph}
 use Rattle.distances.specs.Table.{at, inf, passes}
 use Rattle.distances.specs.Pass.{length-passes}
 use Rattle.automaton.specs.Built.{Built}
-use Rattle.search.specs.Weights.{Weights}
+use Rattle.walks.specs.Weights.{Weights}
 use Rattle.search.specs.Product.{arcAt, stepTo, isOpen, stateEdges}
 use Rattle.search.specs.ProductLaws.{stands-below, open-step, step-weight, step-below}
 use Rattle.search.specs.Targets.{targets, length-targets, targets-are}

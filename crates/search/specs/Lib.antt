@@ -1,5 +1,4 @@
 pub mod Word
-pub mod Weights
 pub mod Product
 pub mod ProductLaws
 pub mod Targets

@@ -13,7 +13,7 @@ use Rattle.distances.specs.Table.{at, inf, passes}
 use Rattle.automaton.specs.Built.{Built}
 use Rattle.search.specs.declared.Found.{Found}
 use Rattle.search.specs.declared.Found.the-variants.{Walk, Nothing}
-use Rattle.search.specs.Weights.{Weights}
+use Rattle.walks.specs.Weights.{Weights}
 use Rattle.search.specs.Product.{stateEdges}
 use Rattle.search.specs.Targets.{targets}
 use Rattle.search.specs.Distance.{bounded}

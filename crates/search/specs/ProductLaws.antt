@@ -17,7 +17,7 @@ use Rattle.automaton.specs.Automaton.{go, blocked}
 use Rattle.automaton.specs.Follow.{Step}
 use Rattle.automaton.specs.Built.{Built, Numbers, bit, flag}
 use Rattle.limits.specs.Limits.{noArc}
-use Rattle.search.specs.Weights.{Weights}
+use Rattle.walks.specs.Weights.{Weights}
 use Rattle.search.specs.Product.{arcAt, stepTo, isOpen, edgeOver, stateEdges, edges-over, over-edges}
 
 pub getD-mem : {A : Type 0} (l : List A) (k : ℕ) (d : A) → k < length l → List·Memᴰ (getD l k d) l

@@ -23,7 +23,7 @@ use Rattle.automaton.specs.Cost.{Cost, via, costOf}
 use Rattle.automaton.specs.Greedy.{Usable, Greedy, greedy-cost, greedy-best, settled-none}
 use Rattle.automaton.specs.Built.{Built}
 use Rattle.search.specs.Word.{word, Lowest, word-lowest}
-use Rattle.search.specs.Weights.{Weights}
+use Rattle.walks.specs.Weights.{Weights}
 use Rattle.search.specs.Product.{arcAt, stepTo, isOpen, stateEdges}
 use Rattle.search.specs.ProductLaws.{wordOf, Numbered, numbered, open-step, step-open, step-number, step-below, step-weight}
 use Rattle.search.specs.Targets.{targets}

@@ -10,7 +10,8 @@ use Rattle.book.specs.Book.{Book, WellFormed, graph}
 use Rattle.book.specs.Tables.{weightTable}
 use Rattle.rules.specs.Area.{valid, spelled}
 use Rattle.rules.specs.ValidLaws.{Valid, valid→Valid}
-use Rattle.search.specs.Weights.{Weights, book-weights}
+use Rattle.walks.specs.Weights.{Weights}
+use Rattle.book.specs.TableLaws.{book-weights}
 use Rattle.planner.specs.Planning.{PlanningIn}
 use Rattle.planner.proofs.Area.{valid-spells, valid-bounded, valid-given}
 use Rattle.planner.proofs.Plans.{small-paths, small-walk, bad-start, bad-end, bad-paths, planned, outcomeOf}
