@@ -12,7 +12,6 @@ pub mod Sums
 pub mod Area
 pub mod Built
 pub mod Words
-pub mod BuiltLaws
 pub mod Progress
 pub mod Rows
 pub mod WrongRoad

@@ -70,14 +70,14 @@ module _ (b : Book) (paths : List ℕ) (count start end : ℕ) (old : List ℕ) 
               (verdict true true true true false (le-leb _ _ paths-fit) (le-leb _ _ walk-fits) (lt-ltb _ _ start-below) (lt-ltb _ _ end-below) h)
 
           pub planned : valid (b .count) paths count ≡ true → (r : Found) (new : List ℕ)
-              → search.Planned (graph b) (spelled count paths) start end old r new → PlanningIn b paths count start end old (outcomeOf r) new
+              → search.Searched (graph b) (spelled count paths) start end old r new → PlanningIn b paths count start end old (outcomeOf r) new
           unfolding decided
           planned h r new found =
               subst (λ o. Planned o (graph b) (spelled count paths) start end old (outcomeOf r) new)
               (sym (verdict true true true true true (le-leb _ _ paths-fit) (le-leb _ _ walk-fits) (lt-ltb _ _ start-below) (lt-ltb _ _ end-below) h))
               (as-found r new found)
             where
-              as-found : (r : Found) (new : List ℕ) → search.Planned (graph b) (spelled count paths) start end old r new
+              as-found : (r : Found) (new : List ℕ) → search.Searched (graph b) (spelled count paths) start end old r new
                   → Planned none (graph b) (spelled count paths) start end old (outcomeOf r) new
               as-found (Walk weight hops) new p = p
               as-found Nothing new p = p

@@ -7,7 +7,7 @@ ghost use Rattle.walks.specs.Graph.{Graph};
 ghost use Rattle.automaton.specs.Area.{Given, Spells, Bounded};
 ghost use Rattle.book.specs.Book.{Book, WellFormed};
 ghost use Rattle.book.specs.Tables.{weightTable};
-ghost use Rattle.search.specs.Plan.{Planned};
+ghost use Rattle.search.specs.Plan.{Searched};
 ghost use Rattle.walks.specs.Weights.{Weights};
 ghost use Rattle.planner.specs.Planning.{Planning, PlanningIn};
 use automaton::STATES;
@@ -98,7 +98,7 @@ fn best_walk(
     requires { ⌜ Given (now paths) count vertices ⌝ }
     requires { ⌜ ((g : Graph) × (g .count ≡ vertices) × Weights g (now weights)) ⌝ }
     requires { ⌜ (start < vertices) × (1600 ≤ length (now walk)) ⌝ }
-    ensures { λ r. ⌜ ((g : Graph) (F : List (List ℕ)) → g .count ≡ vertices → Weights g (now (weights .entry)) → Spells (now (paths .entry)) count F → Bounded vertices F → Planned g F start end (now (walk .entry)) r (now (walk .exit))) ⌝ }
+    ensures { λ r. ⌜ ((g : Graph) (F : List (List ℕ)) → g .count ≡ vertices → Weights g (now (weights .entry)) → Spells (now (paths .entry)) count F → Bounded vertices F → Searched g F start end (now (walk .entry)) r (now (walk .exit))) ⌝ }
 {
     let mut steps = [0u16; STEPS];
     let mut blocked = [0u64; STATES];

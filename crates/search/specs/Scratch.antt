@@ -95,23 +95,23 @@ room-kept r a b c = record {
   seen-blank = r .seen-blank;
 }
 
-module _ {n m : ℕ} {weights steps marks latests : List ℕ} (f : Fits n m weights steps marks latests) where
+module _ {n m : ℕ} {weights steps blockeds latests : List ℕ} (f : Fits n m weights steps blockeds latests) where
   -- Edges of the product join its states.
-  pub fits-within : Within m (stateEdges weights steps marks latests n m)
+  pub fits-within : Within m (stateEdges weights steps blockeds latests n m)
   fits-within e i =
-      let r = edges-over weights steps marks latests n m e i in
+      let r = edges-over weights steps blockeds latests n m e i in
       rw (r .edge) (r .state-below, f .state-below (r .state) (r .vertex) (r .state-below) (r .vertex-below))
 
   pub fits-latests : m ≤ length latests
   fits-latests = go m f
     where
-      go : (m : ℕ) → Fits n m weights steps marks latests → m ≤ length latests
+      go : (m : ℕ) → Fits n m weights steps blockeds latests → m ≤ length latests
       go zero f = omega arith
       go (suc m) f = f .rows m (omega arith) .latests-row
 
   -- The columns of the product's edges, cut to their number, with blank tables.
   pub columns-scratch : {tails heads costs first next seen table : List ℕ} {k : ℕ} → m ≤ 1600 → length table ≡ m → k ≤ m * 64
-      → Room m tails heads costs first next seen → Columns tails heads costs k (stateEdges weights steps marks latests n m)
+      → Room m tails heads costs first next seen → Columns tails heads costs k (stateEdges weights steps blockeds latests n m)
       → Scratch (take k tails) (take k heads) (take k costs) latests (take m first) (take k next) (take m seen) table
   columns-scratch {tails} {heads} {costs} {first} {next} {seen} {table} {k} small size few r c =
       let a = length-take-le k tails (omega (arith, r .tails-room)) in

@@ -30,11 +30,11 @@ const USUAL_STATES: usize = 160;
 
 const USUAL_STEPS: usize = 10240;
 
-// Whether there is an arc of that weight, and the lowest bit of the marks blocks nothing.
-pub fn is_open(weight: u32, marks: u64) -> bool
-    ensures { λ r. ⌜ r ≡ not (eqb weight noArc) && eqb (marks % 2) 0 ⌝ }
+// Whether there is an arc of that weight, and the lowest of the blocked bits is not set.
+pub fn is_open(weight: u32, bits: u64) -> bool
+    ensures { λ r. ⌜ r ≡ not (eqb weight noArc) && eqb (bits % 2) 0 ⌝ }
 {
-    weight != NO_ARC && marks % 2 == 0
+    weight != NO_ARC && bits % 2 == 0
 }
 
 // Appends the edges from state q over the vertices below n, in order, to columns with `filled` entries. Answers how many there
@@ -58,18 +58,18 @@ fn edges_from(
 {
     let arcs = latest[q] as usize * 64;
     let row = q * 64;
-    let mut marks = blocked[q];
+    let mut bits = blocked[q];
     let mut k = filled;
     let mut v = 0;
     while v < n {
         let weight = weights[arcs + v];
-        if is_open(weight, marks) {
+        if is_open(weight, bits) {
             tails[k] = q as u16;
             heads[k] = steps[row + v];
             costs[k] = weight * 2048 + 1;
             k += 1;
         }
-        marks = marks / 2;
+        bits = bits / 2;
         v += 1;
     }
     k

@@ -8,7 +8,7 @@ ghost use Rattle.walks.specs.Avoid.{Avoids};
 ghost use Rattle.distances.specs.Table.{at, inf};
 ghost use Rattle.search.specs.Route.{usable, next, walkFrom};
 ghost use Rattle.search.specs.Fits.{Node, Guiding};
-ghost use Rattle.search.specs.Plan.{Planned, Prepared};
+ghost use Rattle.search.specs.Plan.{Searched, Prepared};
 use crate::Found;
 use crate::product::distances;
 use crate::product::is_open;
@@ -32,18 +32,18 @@ fn usable(
     let arcs = latest[q] as usize * 64;
     let row = q * 64;
     let here = table[q];
-    let mut marks = blocked[q];
+    let mut bits = blocked[q];
     let mut word = 0;
     let mut v = 0;
     while v < n {
         let weight = weights[arcs + v];
-        if is_open(weight, marks) {
+        if is_open(weight, bits) {
             let r = steps[row + v] as usize;
             if table[r] + (weight * 2048 + 1) as u64 == here {
                 word += 1 << v;
             }
         }
-        marks = marks / 2;
+        bits = bits / 2;
         v += 1;
     }
     word
@@ -110,7 +110,7 @@ fn plan_in(
 ) -> Found
     requires { ⌜ ((g : Graph) × (F : List (List ℕ)) × Prepared g F n (length (now table)) (now weights) (now steps) (now blocked) (now latest)) ⌝ }
     requires { ⌜ (start < n) × (1600 ≤ length (now area)) ⌝ }
-    ensures { λ r. ⌜ ((g : Graph) (F : List (List ℕ)) → Prepared g F n (length (now (table .entry))) (now (weights .entry)) (now (steps .entry)) (now (blocked .entry)) (now (latest .entry)) → Avoids F (start ∷ []) → Planned g F start end (now (area .entry)) r (now (area .exit))) ⌝ }
+    ensures { λ r. ⌜ ((g : Graph) (F : List (List ℕ)) → Prepared g F n (length (now (table .entry))) (now (weights .entry)) (now (steps .entry)) (now (blocked .entry)) (now (latest .entry)) → Avoids F (start ∷ []) → Searched g F start end (now (area .entry)) r (now (area .exit))) ⌝ }
 {
     distances(n, end, weights, steps, blocked, latest, table);
     let here = table[start];
@@ -138,7 +138,7 @@ pub fn best_walk(
 ) -> Found
     requires { ⌜ ((g : Graph) × (F : List (List ℕ)) × Prepared g F n m (now weights) (now steps) (now blocked) (now latest)) ⌝ }
     requires { ⌜ (start < n) × (1600 ≤ length (now area)) ⌝ }
-    ensures { λ r. ⌜ ((g : Graph) (F : List (List ℕ)) → Prepared g F n m (now (weights .entry)) (now (steps .entry)) (now (blocked .entry)) (now (latest .entry)) → Avoids F (start ∷ []) → Planned g F start end (now (area .entry)) r (now (area .exit))) ⌝ }
+    ensures { λ r. ⌜ ((g : Graph) (F : List (List ℕ)) → Prepared g F n m (now (weights .entry)) (now (steps .entry)) (now (blocked .entry)) (now (latest .entry)) → Avoids F (start ∷ []) → Searched g F start end (now (area .entry)) r (now (area .exit))) ⌝ }
 {
     let mut table = [0u64; STATES];
     plan_in(
