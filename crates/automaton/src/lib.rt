@@ -14,8 +14,11 @@ use limits::MOST_PATHS;
 use limits::MOST_VERTICES;
 use lists::wide;
 
-// How many states there are at most: a vertex each, and six for each path. The steps from them: one for each vertex.
-pub const STATES: usize = MOST_VERTICES + MOST_PATHS * 6;
+// A path's proper prefixes of two vertices or more: at most six.
+pub const PREFIXES: usize = 6;
+
+// How many states there are at most: the single vertices, and the prefixes of each path. The steps from them: one for each vertex.
+pub const STATES: usize = MOST_VERTICES + MOST_PATHS * PREFIXES;
 
 pub const STEPS: usize = STATES * MOST_VERTICES;
 

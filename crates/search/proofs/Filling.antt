@@ -10,6 +10,7 @@ use lib.Dec.{eqb}
 use lib.ListN.{length, getD, set, length-set}
 use Rattle.distances.specs.Edge.{Edge}
 use Rattle.limits.specs.Limits.{noArc}
+use Rattle.distances.specs.Pack.{hopsLimit}
 use Rattle.search.specs.Product.{arcAt, stepTo, isOpen, edgeOver, edgesFrom}
 use Rattle.search.specs.Columns.{Columns, columns-more}
 
@@ -43,7 +44,7 @@ module _ (weights steps blockeds latests : List ℕ) (q filled : ℕ) (tails₀ 
 
   module _ {tails heads costs : List ℕ} {left k v : ℕ} (f : Filling tails heads costs left k v) where
     pub filling-open : isOpen weights steps blockeds latests q v ≡ true → k < length tails → k < length heads → k < length costs
-        → Filling (set tails k q) (set heads k (stepTo weights steps blockeds latests q v)) (set costs k (arcAt weights steps blockeds latests q v * 2048 + 1)) (left / 2) (k + 1) (v + 1)
+        → Filling (set tails k q) (set heads k (stepTo weights steps blockeds latests q v)) (set costs k (arcAt weights steps blockeds latests q v * hopsLimit + 1)) (left / 2) (k + 1) (v + 1)
     unfolding edgesFrom
     filling-open o a b c = record {
       left-is = ap (λ x. x / 2) (f .left-is) ∙ next-half (getD blockeds q 0) v;

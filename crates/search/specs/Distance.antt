@@ -4,7 +4,7 @@ use mathlib.Core.List.{List, [], _∷_, Memᴰ·cast}
 use mathlib.Core.Logic.{_⊎_, inl, inr, ⊎-elim}
 use mathlib.Core.Option.{Option, none, some, Option·none-ne-some}
 use mathlib.Core.Path.{_≡_, refl, sym, ap, _∙_}
-use Prim.Native.Nat.{ℕ, zero, suc, _+_, _/_, _%_, _<_, _≤_}
+use Prim.Native.Nat.{ℕ, zero, suc, _+_, _*_, _/_, _%_, _<_, _≤_}
 use native.Mathlib.Omega.{arith}
 use borrow.Author.Tests.{lt-ltb, le-ltb, ltb-true, eq-eqb, eqb-true}
 use lib.Dec.{T, ltb, eqb}
@@ -13,7 +13,7 @@ use Rattle.walks.specs.Graph.{Graph, arcWeight}
 use Rattle.walks.specs.Avoid.{same, same→≡, same-refl}
 use Rattle.distances.specs.Edge.{Edge}
 use Rattle.distances.specs.Table.{at, inf, Least, passes}
-use Rattle.distances.specs.Pack.{pack, pack-order, found, best-bounds}
+use Rattle.distances.specs.Pack.{pack, pack-order, found, best-bounds, hopsLimit}
 use Rattle.distances.specs.Shorten.{passes-least-of-all}
 use Rattle.distances.specs.Bellman.{least-edge, first-edge}
 use Rattle.automaton.specs.States.{latest}
@@ -23,6 +23,8 @@ use Rattle.automaton.specs.Cost.{Cost, _≤ᶜ_, via}
 use Rattle.automaton.specs.Greedy.{Settled}
 use Rattle.automaton.specs.Built.{Built, Numbers}
 use Rattle.walks.specs.Weights.{Weights}
+use Rattle.automaton.specs.Count.{mostStates}
+use Rattle.limits.specs.Limits.{heaviest}
 use Rattle.search.specs.Product.{arcAt, stepTo, isOpen, edgeOver, stateEdges, Over, edges-over}
 use Rattle.search.specs.ProductLaws.{getD-mem, wordOf, Numbered, numbered, each-numbered, step-number, step-below, step-weight, step-edge, weighted}
 use Rattle.search.specs.Targets.{targets, at-targets, targets-are}
@@ -48,7 +50,7 @@ number-is (x ∷ l) (suc k) w d n = go (number-is l k w (d .1) (record { below =
 
 -- What an entry says: weight and hops unpacked, none at `inf`.
 abbrev pub unpacked : ℕ → Cost
-unpacked d = record { weight = d / 2048; hops = d % 2048 }
+unpacked d = record { weight = d / hopsLimit; hops = d % hopsLimit }
 
 abbrev pub reading : ℕ → Option Cost
 reading d = cond (ltb d inf) (some (unpacked d)) none
@@ -78,7 +80,7 @@ module _ {g : Graph} {F : List (List ℕ)} {m : ℕ} {steps blockeds latests wei
   at-most q h = omega (arith, least q h .least [] q refl)
 
   -- An entry below `inf` has room for one more arc and hop.
-  pub bounded : (q : ℕ) → q < m → at d q < inf → (at d q / 2048 ≤ 1599000000) × (at d q % 2048 < 1600)
+  pub bounded : (q : ℕ) → q < m → at d q < inf → (at d q / hopsLimit < mostStates * heaviest) × (at d q % hopsLimit < mostStates)
   bounded q h below =
       let (r, p, best, e) = found (weighted built table) (targets latests t m) q h (targets-are latests t m) (least q h) below in
       let (few, light) = best-bounds (weighted built table) (targets latests t m) q h r p best in
@@ -137,5 +139,5 @@ module _ {g : Graph} {F : List (List ℕ)} {m : ℕ} {steps blockeds latests wei
           let below : at d q < inf = omega arith in (
             unpacked (at d q),
             distance-at q (wordOf built q) (numbered built q h) ∙ reading-some (at d q) below,
-            rw y-is (pack-order (at d q / 2048) (at d q % 2048) (a + at d r / 2048) (suc (at d r % 2048)) (omega arith) (omega arith)),
+            rw y-is (pack-order (at d q / hopsLimit) (at d q % hopsLimit) (a + at d r / hopsLimit) (suc (at d r % hopsLimit)) (omega arith) (omega arith)),
           )

@@ -8,3 +8,4 @@ pub mod Columns
 pub mod Fits
 pub mod Scratch
 pub mod Plan
+pub mod Work

@@ -11,12 +11,12 @@ use lib.ListN.{length, getD}
 use Rattle.lists.specs.Test.{and-true}
 use Rattle.walks.specs.Graph.{Graph, isSome, arcWeight}
 use Rattle.distances.specs.Edge.{Edge, _∈_}
-use Rattle.distances.specs.Pack.{pack, Weighted}
+use Rattle.distances.specs.Pack.{pack, Weighted, hopsLimit}
 use Rattle.automaton.specs.States.{latest}
 use Rattle.automaton.specs.Automaton.{go, blocked}
 use Rattle.automaton.specs.Follow.{Step}
 use Rattle.automaton.specs.Built.{Built, Numbers, bit, flag}
-use Rattle.limits.specs.Limits.{noArc}
+use Rattle.limits.specs.Limits.{noArc, heaviest}
 use Rattle.walks.specs.Weights.{Weights}
 use Rattle.search.specs.Product.{arcAt, stepTo, isOpen, edgeOver, stateEdges, edges-over, over-edges}
 
@@ -70,11 +70,11 @@ module _ {g : Graph} {F : List (List ℕ)} {m : ℕ} {steps blockeds latests wei
         given none n = n refl
         given (some x) n = tt
 
-    pub step-weight : Step g F (wordOf built q) v → (arcAt weights steps blockeds latests q v ≡ arcWeight g (latest (wordOf built q)) v) × (arcWeight g (latest (wordOf built q)) v ≤ 1000000)
+    pub step-weight : Step g F (wordOf built q) v → (arcAt weights steps blockeds latests q v ≡ arcWeight g (latest (wordOf built q)) v) × (arcWeight g (latest (wordOf built q)) v ≤ heaviest)
     step-weight s = go (g .weight (latest (wordOf built q)) v) refl (s .arc) (arc-entry (s .below))
       where
         go : (o : Option ℕ) → g .weight (latest (wordOf built q)) v ≡ o → T (isSome o) → arcAt weights steps blockeds latests q v ≡ Option·getD o noArc
-            → (arcAt weights steps blockeds latests q v ≡ Option·getD o 0) × (Option·getD o 0 ≤ 1000000)
+            → (arcAt weights steps blockeds latests q v ≡ Option·getD o 0) × (Option·getD o 0 ≤ heaviest)
         go none e t a = absurd t
         go (some x) e t a = (a, table .light (latest (wordOf built q)) v x e)
 
@@ -97,7 +97,7 @@ module _ {g : Graph} {F : List (List ℕ)} {m : ℕ} {steps blockeds latests wei
     pub step : Step g F (wordOf built (e .tail)) vertex
     pub head-is : Numbers (built .words) (e .head) (go F (wordOf built (e .tail)) vertex)
     pub cost-is : e .cost ≡ pack (arcWeight g (latest (wordOf built (e .tail))) vertex) 1
-    pub light : arcWeight g (latest (wordOf built (e .tail))) vertex ≤ 1000000
+    pub light : arcWeight g (latest (wordOf built (e .tail))) vertex ≤ heaviest
 
   pub edge-stepping : (e : Edge) → e ∈ stateEdges weights steps blockeds latests (g .count) m → Stepping e
   edge-stepping e i =
@@ -112,9 +112,9 @@ module _ {g : Graph} {F : List (List ℕ)} {m : ℕ} {steps blockeds latests wei
   pub step-edge : (q v : ℕ) → q < m → Step g F (wordOf built q) v → edgeOver weights steps blockeds latests q v ∈ stateEdges weights steps blockeds latests (g .count) m
   step-edge q v h s = over-edges weights steps blockeds latests (g .count) m q v h (s .below) (step-open q v h s)
 
-  pub weighted : Weighted m (stateEdges weights steps blockeds latests (g .count) m) (λ e. e .cost / 2048)
+  pub weighted : Weighted m (stateEdges weights steps blockeds latests (g .count) m) (λ e. e .cost / hopsLimit)
   weighted = record {
-    few = built .few;
+    few = omega (arith, built .few);
     within = λ e i. let s = edge-stepping e i in (s .tail-below, omega (arith, s .head-is .below, built .count));
     light = λ e i. let s = edge-stepping e i in omega (arith, s .cost-is, s .light);
     packed = λ e i. let s = edge-stepping e i in omega (arith, s .cost-is, s .light);

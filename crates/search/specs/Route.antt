@@ -16,7 +16,7 @@ use Rattle.walks.specs.Walk.{weightOf, hops}
 use Rattle.walks.specs.Avoid.{Avoids}
 use Rattle.walks.specs.Best.{Best, None}
 use Rattle.distances.specs.Table.{at, inf, passes}
-use Rattle.distances.specs.Pack.{pack}
+use Rattle.distances.specs.Pack.{pack, hopsLimit}
 use Rattle.automaton.specs.States.{latest}
 use Rattle.automaton.specs.Automaton.{go}
 use Rattle.automaton.specs.Cost.{Cost, via, costOf}
@@ -53,7 +53,7 @@ module _ (weights steps blockeds latests d : List ℕ) where
 
   -- The walk from s with as many hops as its entry says.
   abbrev pub walkFrom : ℕ → ℕ → List ℕ
-  walkFrom n s = s ∷ route n (at d s % 2048) s
+  walkFrom n s = s ∷ route n (at d s % hopsLimit) s
 
   -- Where hops are left, the next vertex leads to a state whose entry is less by an arc and one hop.
   pub record Guided (n m q : ℕ) : Type 0 where
@@ -72,8 +72,8 @@ module _ {g : Graph} {F : List (List ℕ)} {m : ℕ} {steps blockeds latests wei
       let s = open-step built table q v h b free in
       let (is, light) = step-weight built table q v h s in
       let (w, k) = bounded built table t d final r (step-below built table q v h b) (omega arith) in
-      let weight-is : at d q / 2048 ≡ arcWeight g (latest (wordOf built q)) v + at d r / 2048 = omega arith in
-      let hops-is : at d q % 2048 ≡ suc (at d r % 2048) = omega arith in
+      let weight-is : at d q / hopsLimit ≡ arcWeight g (latest (wordOf built q)) v + at d r / hopsLimit = omega arith in
+      let hops-is : at d q % hopsLimit ≡ suc (at d r % hopsLimit) = omega arith in
       record {
         step = s;
         rest = unpacked (at d r);
@@ -89,32 +89,32 @@ module _ {g : Graph} {F : List (List ℕ)} {m : ℕ} {steps blockeds latests wei
       let (is, light) = step-weight built table q v h s in
       let (near, rest-is) = some-reading (at d r) (u .rest) (sym (distance-at built table t d final r (go F (wordOf built q) v) (step-number built table q v h (s .below))) ∙ u .after) in
       let (below, here-is) = some-reading (at d q) (via a (u .rest)) (sym (distance-at built table t d final q (wordOf built q) (numbered built q h)) ∙ u .here) in
-      let weight-is : a + at d r / 2048 ≡ at d q / 2048 = omega (arith, ap (λ (x : Cost). x .weight) here-is, ap (λ (x : Cost). x .weight) rest-is) in
-      let hops-is : suc (at d r % 2048) ≡ at d q % 2048 = omega (arith, ap (λ (x : Cost). x .hops) here-is, ap (λ (x : Cost). x .hops) rest-is) in
+      let weight-is : a + at d r / hopsLimit ≡ at d q / hopsLimit = omega (arith, ap (λ (x : Cost). x .weight) here-is, ap (λ (x : Cost). x .weight) rest-is) in
+      let hops-is : suc (at d r % hopsLimit) ≡ at d q % hopsLimit = omega (arith, ap (λ (x : Cost). x .hops) here-is, ap (λ (x : Cost). x .hops) rest-is) in
       rw (step-open built table q v h s, eq-eqb (at d r + pack (arcAt weights steps blockeds latests q v) 1) (at d q) (omega arith))
 
   -- Where hops are left, some vertex is usable.
-  some-usable : (q : ℕ) → q < m → at d q < inf → 0 < at d q % 2048 → (v : ℕ) × (v < g .count) × (isUsable weights steps blockeds latests d q v ≡ true)
+  some-usable : (q : ℕ) → q < m → at d q < inf → 0 < at d q % hopsLimit → (v : ℕ) × (v < g .count) × (isUsable weights steps blockeds latests d q v ≡ true)
   some-usable q h near more =
       ⊎-elim (λ (e, z). absurd (omega arith))
       (λ (v, b, free, falls). (v, b, rw (free, eq-eqb (at d (stepTo weights steps blockeds latests q v) + pack (arcAt weights steps blockeds latests q v) 1) (at d q) (sym falls))))
       (entry-cases built table t d final q h near)
 
-  pub lowest-usable : (q : ℕ) → q < m → at d q < inf → 0 < at d q % 2048 →
+  pub lowest-usable : (q : ℕ) → q < m → at d q < inf → 0 < at d q % hopsLimit →
       (next weights steps blockeds latests d (g .count) q < g .count) × Lowest (isUsable weights steps blockeds latests d q) (next weights steps blockeds latests d (g .count) q)
   lowest-usable q h near more =
       let (v, b, u) = some-usable q h near more in
       let (low, l) = word-lowest 64 (isUsable weights steps blockeds latests d q) (g .count) v (table .few) b u in
       (omega arith, l)
 
-  pub guided : (q : ℕ) → q < m → at d q < inf → 0 < at d q % 2048 → Guided weights steps blockeds latests d (g .count) m q
+  pub guided : (q : ℕ) → q < m → at d q < inf → 0 < at d q % hopsLimit → Guided weights steps blockeds latests d (g .count) m q
   guided q h near more =
       let (b, l) = lowest-usable q h near more in
       let v = next weights steps blockeds latests d (g .count) q in
       let (free, falls) = and-true (isOpen weights steps blockeds latests q v) (eqb (at d (stepTo weights steps blockeds latests q v) + pack (arcAt weights steps blockeds latests q v) 1) (at d q)) (l .passes) in
       record { vertex-below = b; state-below = step-below built table q v h b; falls = sym (eqb-true _ _ falls) }
 
-  route-greedy : (k q : ℕ) → q < m → at d q < inf → at d q % 2048 ≡ k → Greedy g F t (distance built table t d final) (wordOf built q) (route weights steps blockeds latests d (g .count) k q)
+  route-greedy : (k q : ℕ) → q < m → at d q < inf → at d q % hopsLimit ≡ k → Greedy g F t (distance built table t d final) (wordOf built q) (route weights steps blockeds latests d (g .count) k q)
   unfolding route
   route-greedy zero q h near e =
       ⊎-elim (λ (at-end, z). at-end)
@@ -133,19 +133,19 @@ module _ {g : Graph} {F : List (List ℕ)} {m : ℕ} {steps blockeds latests wei
     start-state : s < m
     start-state = omega (arith, built .singles s below .below, built .count)
 
-    start-greedy : at d s < inf → Greedy g F t (distance built table t d final) (s ∷ []) (route weights steps blockeds latests d (g .count) (at d s % 2048) s)
-    start-greedy near = rw (built .singles s below .is) at (route-greedy (at d s % 2048) s start-state near refl)
+    start-greedy : at d s < inf → Greedy g F t (distance built table t d final) (s ∷ []) (route weights steps blockeds latests d (g .count) (at d s % hopsLimit) s)
+    start-greedy near = rw (built .singles s below .is) at (route-greedy (at d s % hopsLimit) s start-state near refl)
 
     start-distance : distance built table t d final (s ∷ []) ≡ reading (at d s)
     start-distance = distance-at built table t d final s (s ∷ []) (built .singles s below)
 
     -- The walk over the lowest usable vertices is the best one; its entry has its weight and hops.
     pub walk-best : at d s < inf → Best g F s t (walkFrom weights steps blockeds latests d (g .count) s)
-    walk-best near = greedy-best g F t (distance built table t d final) (Numbered built) (settled built table t d final) s below clear (s, built .singles s below) (route weights steps blockeds latests d (g .count) (at d s % 2048) s) (start-greedy near)
+    walk-best near = greedy-best g F t (distance built table t d final) (Numbered built) (settled built table t d final) s below clear (s, built .singles s below) (route weights steps blockeds latests d (g .count) (at d s % hopsLimit) s) (start-greedy near)
 
-    pub walk-weight : at d s < inf → weightOf g (walkFrom weights steps blockeds latests d (g .count) s) ≡ at d s / 2048
+    pub walk-weight : at d s < inf → weightOf g (walkFrom weights steps blockeds latests d (g .count) s) ≡ at d s / hopsLimit
     walk-weight near =
-        let (n, is) = some-reading (at d s) (costOf g (s ∷ []) (route weights steps blockeds latests d (g .count) (at d s % 2048) s)) (sym start-distance ∙ greedy-cost g F t (distance built table t d final) (Numbered built) (settled built table t d final) (route weights steps blockeds latests d (g .count) (at d s % 2048) s) (s ∷ []) (s, built .singles s below) (start-greedy near)) in
+        let (n, is) = some-reading (at d s) (costOf g (s ∷ []) (route weights steps blockeds latests d (g .count) (at d s % hopsLimit) s)) (sym start-distance ∙ greedy-cost g F t (distance built table t d final) (Numbered built) (settled built table t d final) (route weights steps blockeds latests d (g .count) (at d s % hopsLimit) s) (s ∷ []) (s, built .singles s below) (start-greedy near)) in
         ap (λ (x : Cost). x .weight) is
 
     -- Without an entry at the start there is no walk.

@@ -3,6 +3,7 @@ use Prim.Native.Nat.{_≤_, _-_}
 use mathlib.Core.Path.{_≡_, sym, _∙_}
 use mathlib.Core.Logic.{⊎-elim}
 use native.Mathlib.Omega.{arith}
+use Rattle.limits.specs.Limits.{heaviest}
 use Rattle.search.specs.Product.{arcAt, isOpen}
 use Rattle.search.proofs.Filling.{Filling, filling-none, filling-open, filling-shut, open-test}
 use Rattle.search.proofs.product.edges_from.Statement.{statement}
@@ -28,7 +29,7 @@ opened c =
 light : (c : tie.Then1 Inv-loop μ-loop) →
     let l = c .before .before .before .before in
     let a = l .before .before .before .before .before .before .before .before .before .args in
-    arcAt (a .weights .now) (a .steps .now) (a .blocked .now) (a .latest .now) (a .q) (l .loop .v) ≤ 1000000
+    arcAt (a .weights .now) (a .steps .now) (a .blocked .now) (a .latest .now) (a .q) (l .loop .v) ≤ heaviest
 light c =
     let l = c .before .before .before .before in
     l .before .before .before .before .before .before .before .before .before .pre .0 .light (l .loop .v) (c .before .before .before .loop-test .taken) (sym (opened (c .before)) ∙ c .if1 .taken)

@@ -5,6 +5,7 @@ use mathlib.Core.Logic.{⊎-elim}
 use native.Mathlib.Omega.{arith}
 use lib.ListN.{length, getD}
 use Rattle.distances.specs.Table.{at, inf}
+use Rattle.limits.specs.Limits.{heaviest}
 use Rattle.search.specs.Product.{arcAt, stepTo, isOpen}
 use Rattle.search.specs.Route.{isUsable}
 use Rattle.search.proofs.Filling.{open-test}
@@ -31,7 +32,7 @@ opened c =
 light : (c : tie.Then1 Inv-loop μ-loop) →
     let l = c .before .before .before .before in
     let a = l .before .before .before .before .before .before .before .before .args in
-    arcAt (a .weights .now) (a .steps .now) (a .blocked .now) (a .latest .now) (a .q) (l .loop .v) ≤ 1000000
+    arcAt (a .weights .now) (a .steps .now) (a .blocked .now) (a .latest .now) (a .q) (l .loop .v) ≤ heaviest
 light c =
     let l = c .before .before .before .before in
     l .before .before .before .before .before .before .before .before .pre .row .light (l .loop .v) (c .before .before .before .loop-test .taken) (sym (opened (c .before)) ∙ c .if1 .taken)
