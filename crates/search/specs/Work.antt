@@ -1,7 +1,7 @@
 -- The work tables of the whole search, and what building the automaton and the distances ask of them.
 use mathlib.Core.List.{List, _++_}
 use mathlib.Core.Logic.{by-cases}
-use mathlib.Core.Path.{_≡_, sym, ap, _∙_}
+use mathlib.Core.Path.{_≡_, refl, sym, ap, _∙_}
 use Prim.Native.Nat.{ℕ, _*_, _<_, _≤_}
 use native.Mathlib.Omega.{arith}
 use native.Mathlib.Decide.{decLt}
@@ -14,22 +14,22 @@ use Rattle.automaton.specs.Area.{Spells}
 use Rattle.automaton.specs.Count.{statesOf}
 use Rattle.automaton.specs.Built.{Built}
 use Rattle.automaton.specs.Progress.{Room}
-use Rattle.search.specs.Scratch.{EdgeRoom, room-less}
+use Rattle.search.specs.Scratch.{EdgeRoom, room-less, room-kept}
 use Rattle.search.specs.Product.{stateEdges}
 use Rattle.search.specs.Targets.{targets}
 use Rattle.search.specs.Plan.{Prepared, Measured}
 
 -- Room for `most` states everywhere: in the automaton's tables, in those for the edges, and in the table of distances.
-pub record Work (most : ℕ) (steps blockeds latests fails tails heads costs first next seen table : List ℕ) : Type 0 where
-  pub automaton : Room most steps blockeds latests fails
+pub record Work (most : ℕ) (steps blockeds latests tails heads costs first next seen table : List ℕ) : Type 0 where
+  pub automaton : Room most steps blockeds latests tails
   pub edges : EdgeRoom most tails heads costs first next seen
   pub entries : most ≤ length table
 
 -- Arrays for k states, as they are made.
 pub blank-work : (most k : ℕ) → most ≤ k
-    → Work most (replicate (k * 64) 0) (replicate k 0) (replicate k 0) (replicate k 0) (replicate (k * 64) 0) (replicate (k * 64) 0) (replicate (k * 64) 0) (replicate k 0) (replicate (k * 64) 0) (replicate k inf) (replicate k 0)
+    → Work most (replicate (k * 64) 0) (replicate k 0) (replicate k 0) (replicate (k * 64) 0) (replicate (k * 64) 0) (replicate (k * 64) 0) (replicate k 0) (replicate (k * 64) 0) (replicate k inf) (replicate k 0)
 blank-work most k h = record {
-  automaton = record { of-steps = long; of-blockeds = short 0; of-latests = short 0; of-fails = short 0 };
+  automaton = record { of-steps = long; of-blockeds = short 0; of-latests = short 0; of-fails = omega (arith, long) };
   edges = record {
     tails-room = long;
     heads-room = long;
@@ -61,8 +61,9 @@ module _ {paths : List ℕ} {count vertices m : ℕ} {F : List (List ℕ)} {step
     pub front-prepared : {g : Graph} {weights : List ℕ} → g .count ≡ vertices → Weights g weights → Prepared g F vertices (length (take m table)) weights steps blockeds latests
     front-prepared count-is weighed = rw front-length (record { count-is = count-is; built = built; table = weighed })
 
-    pub front-edges : {tails heads costs first next seen : List ℕ} → EdgeRoom (statesOf vertices count) tails heads costs first next seen → EdgeRoom (length (take m table)) tails heads costs first next seen
-    front-edges r = rw front-length (room-less built-counted r)
+    pub front-edges : {tails tails′ heads costs first next seen : List ℕ} → EdgeRoom (statesOf vertices count) tails heads costs first next seen → length tails′ ≡ length tails
+        → EdgeRoom (length (take m table)) tails′ heads costs first next seen
+    front-edges r kept = rw front-length (room-less built-counted (room-kept r kept refl refl))
 
     -- The front after the distances x have come back to it.
     module _ (x : List ℕ) (same : length x ≡ length (take m table)) where

@@ -26,7 +26,8 @@ const USUAL_STATES: usize = 160;
 
 const USUAL_STEPS: usize = USUAL_STATES * MOST_VERTICES;
 
-// Builds the automaton, works out the distances of its states, and reads the best walk off them.
+// Builds the automaton, works out the distances of its states, and reads the best walk off them. The failure links stand in
+// the column of the tails, which is written later.
 fn search_in(
     weights: &[u32; PAIRS],
     vertices: usize,
@@ -38,7 +39,6 @@ fn search_in(
     steps: &mut [u16],
     blocked: &mut [u64],
     latest: &mut [u8],
-    fail: &mut [u16],
     tails: &mut [u16],
     heads: &mut [u16],
     costs: &mut [u32],
@@ -48,10 +48,10 @@ fn search_in(
     table: &mut [u64],
 ) -> Found
     requires { ⌜ Asked (now weights) vertices (now paths) count start (now walk) ⌝ }
-    requires { ⌜ Work (statesOf vertices count) (now steps) (now blocked) (now latest) (now fail) (now tails) (now heads) (now costs) (now first) (now next) (now seen) (now table) ⌝ }
+    requires { ⌜ Work (statesOf vertices count) (now steps) (now blocked) (now latest) (now tails) (now heads) (now costs) (now first) (now next) (now seen) (now table) ⌝ }
     ensures { λ r. ⌜ Answered (now (weights .entry)) vertices (now (paths .entry)) count start end (now (walk .entry)) r (now (walk .exit)) ⌝ }
 {
-    let states = build(paths, count, vertices, steps, blocked, latest, fail);
+    let states = build(paths, count, vertices, steps, blocked, latest, tails);
     distances_to(
         vertices,
         end,
@@ -96,7 +96,6 @@ fn usual_search(
     let mut steps = [0u16; USUAL_STEPS];
     let mut blocked = [0u64; USUAL_STATES];
     let mut latest = [0u8; USUAL_STATES];
-    let mut fail = [0u16; USUAL_STATES];
     let mut tails = [0u16; USUAL_STEPS];
     let mut heads = [0u16; USUAL_STEPS];
     let mut costs = [0u32; USUAL_STEPS];
@@ -115,7 +114,6 @@ fn usual_search(
         &mut steps,
         &mut blocked,
         &mut latest,
-        &mut fail,
         &mut tails,
         &mut heads,
         &mut costs,
@@ -143,7 +141,6 @@ fn full_search(
     let mut steps = [0u16; STEPS];
     let mut blocked = [0u64; STATES];
     let mut latest = [0u8; STATES];
-    let mut fail = [0u16; STATES];
     let mut tails = [0u16; STEPS];
     let mut heads = [0u16; STEPS];
     let mut costs = [0u32; STEPS];
@@ -162,7 +159,6 @@ fn full_search(
         &mut steps,
         &mut blocked,
         &mut latest,
-        &mut fail,
         &mut tails,
         &mut heads,
         &mut costs,

@@ -1,6 +1,6 @@
 -- `search::work::search_in` meets its contract: what was built and measured is what the search asks for. Assumes nothing.
 use mathlib.Core.List.{List, _++_}
-use mathlib.Core.Path.{_≡_, sym}
+use mathlib.Core.Path.{_≡_, sym, _∙_}
 use native.Mathlib.Omega.{arith}
 use Prim.Native.Nat.{ℕ}
 use lib.ListN.{take, drop}
@@ -15,7 +15,7 @@ use Rattle.search.proofs.work.search_in.Statement.{statement}
 use Rattle.search.proofs.work.search_in.Tie as tie
 
 abbrev start-of : tie.After-build → tie.Start
-start-of c = c .before .before .before .before .before .before .before .before .before .before .before .before .before .before .before .before .before .before
+start-of c = c .before .before .before .before .before .before .before .before .before .before .before .before .before .before .before .before .before
 
 -- the tables that were built
 built : (c : tie.After-build)
@@ -41,7 +41,7 @@ measured c g F count-is weighed spells bounded =
     back-measured spells (b .build .ensures F spells bounded) (s .args .table .now) (s .pre .1 .entries) (distances c) (c .distances-to .kept .1 .1 .1 .1 .1 .1 .1 .1 .1 .1 .1 .1 .0) count-is weighed (s .args .end) (c .distances-to .ensures)
 
 build-requires : tie.Need-build-requires
-build-requires c κs = let s = c .before .before .before .before .before .before .before .before .before .before .before .before .before .before .before .before .before in (s .pre .0 .given, s .pre .1 .automaton)
+build-requires c κs = let s = c .before .before .before .before .before .before .before .before .before .before .before .before .before .before .before .before in (s .pre .0 .given, s .pre .1 .automaton)
 
 slice-relend-prefix-distances-to : tie.Need-slice-relend-prefix-distances-to
 slice-relend-prefix-distances-to c =
@@ -60,7 +60,7 @@ distances-to-requires c κs =
     let spells = s .pre .0 .given .spells in
     let (g, count-is, weighed) = s .pre .0 .weighed in
     let p = front-prepared spells (built b) (s .args .table .now) (s .pre .1 .entries) count-is weighed in
-    (prepared-fits p, (p .built .few, front-edges spells (built b) (s .args .table .now) (s .pre .1 .entries) (s .pre .1 .edges)))
+    (prepared-fits p, (p .built .few, front-edges spells (built b) (s .args .table .now) (s .pre .1 .entries) (s .pre .1 .edges) (b .build .kept .1 .1 .1 .1 .1 .1 .0)))
 
 slice-reshare-prefix-least-walk : tie.Need-slice-reshare-prefix-least-walk
 slice-reshare-prefix-least-walk c =
@@ -98,28 +98,25 @@ same-length-4 : tie.Need-same-length-4
 same-length-4 c = c .before .before .before .before .before .before .before .before .before .before .before .before .before .before .before .before .before .before .before .before .before .before .before .before .before .before .before .before .before .before .before .before .before .before .before .before .before .before .before .before .before .build .kept .1 .1 .1 .1 .1 .0
 
 same-length-5 : tie.Need-same-length-5
-same-length-5 c = c .before .before .before .before .before .before .before .before .before .before .before .before .before .before .before .before .before .before .before .before .before .before .before .before .before .before .before .before .before .before .before .before .before .before .before .before .before .before .before .before .before .build .kept .1 .1 .1 .1 .1 .1 .0
+same-length-5 c = c .before .before .before .before .before .before .before .before .before .before .before .before .before .before .before .before .before .before .before .before .before .before .distances-to .kept .1 .1 .1 .1 .1 .1 .0 ∙ c .before .before .before .before .before .before .before .before .before .before .before .before .before .before .before .before .before .before .before .before .before .before .before .before .before .before .before .before .before .before .before .before .before .before .before .before .before .before .before .before .before .build .kept .1 .1 .1 .1 .1 .1 .0
 
 same-length-6 : tie.Need-same-length-6
-same-length-6 c = c .before .before .before .before .before .before .before .before .before .before .before .before .before .before .before .before .before .before .before .before .before .before .distances-to .kept .1 .1 .1 .1 .1 .1 .0
+same-length-6 c = c .before .before .before .before .before .before .before .before .before .before .before .before .before .before .before .before .before .before .before .before .before .before .distances-to .kept .1 .1 .1 .1 .1 .1 .1 .0
 
 same-length-7 : tie.Need-same-length-7
-same-length-7 c = c .before .before .before .before .before .before .before .before .before .before .before .before .before .before .before .before .before .before .before .before .before .before .distances-to .kept .1 .1 .1 .1 .1 .1 .1 .0
+same-length-7 c = c .before .before .before .before .before .before .before .before .before .before .before .before .before .before .before .before .before .before .before .before .before .before .distances-to .kept .1 .1 .1 .1 .1 .1 .1 .1 .0
 
 same-length-8 : tie.Need-same-length-8
-same-length-8 c = c .before .before .before .before .before .before .before .before .before .before .before .before .before .before .before .before .before .before .before .before .before .before .distances-to .kept .1 .1 .1 .1 .1 .1 .1 .1 .0
+same-length-8 c = c .before .before .before .before .before .before .before .before .before .before .before .before .before .before .before .before .before .before .before .before .before .before .distances-to .kept .1 .1 .1 .1 .1 .1 .1 .1 .1 .0
 
 same-length-9 : tie.Need-same-length-9
-same-length-9 c = c .before .before .before .before .before .before .before .before .before .before .before .before .before .before .before .before .before .before .before .before .before .before .distances-to .kept .1 .1 .1 .1 .1 .1 .1 .1 .1 .0
+same-length-9 c = c .before .before .before .before .before .before .before .before .before .before .before .before .before .before .before .before .before .before .before .before .before .before .distances-to .kept .1 .1 .1 .1 .1 .1 .1 .1 .1 .1 .0
 
 same-length-10 : tie.Need-same-length-10
-same-length-10 c = c .before .before .before .before .before .before .before .before .before .before .before .before .before .before .before .before .before .before .before .before .before .before .distances-to .kept .1 .1 .1 .1 .1 .1 .1 .1 .1 .1 .0
+same-length-10 c = c .before .before .before .before .before .before .before .before .before .before .before .before .before .before .before .before .before .before .before .before .before .before .distances-to .kept .1 .1 .1 .1 .1 .1 .1 .1 .1 .1 .1 .0
 
 same-length-11 : tie.Need-same-length-11
-same-length-11 c = c .before .before .before .before .before .before .before .before .before .before .before .before .before .before .before .before .before .before .before .before .before .before .distances-to .kept .1 .1 .1 .1 .1 .1 .1 .1 .1 .1 .1 .0
-
-same-length-12 : tie.Need-same-length-12
-same-length-12 c =
+same-length-11 c =
     let d = c .before .before .before .before .before .before .before .before .before .before .before .before .before .before .before .before .before .before .before .before .before .before in
     let b = build-of d in
     let s = start-of b in
@@ -153,5 +150,4 @@ search-in-spec =
     same-length-9
     same-length-10
     same-length-11
-    same-length-12
     returns)
