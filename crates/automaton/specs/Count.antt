@@ -134,12 +134,13 @@ pub state-count : (n m : ℕ) (F l : List (List ℕ)) → Distinct l → ((q : L
 state-count n m F l d only h =
     omega (arith, distinct-length l (vertices n ++ prefixes F) d (λ q i. state-listed F n q (only q i .0) (only q i .1)), length-append (vertices n) (prefixes F), length-vertices n, length-prefixes m F h)
 
--- How many states there are at most over n vertices with k paths: a vertex each, and the proper prefixes of 2 to 7 vertices of each path.
+-- How many states there are at most over n vertices with k paths: the single vertices, and the proper prefixes of 2 to 7 vertices of each path.
 abbrev pub statesOf : ℕ → ℕ → ℕ
 statesOf n k = n + k * 6
 
+-- 1,600 states, whatever the book.
 abbrev pub mostStates : ℕ
-mostStates = 1600
+mostStates = statesOf mostVertices mostPaths
 
 pub state-bound : (n : ℕ) (F l : List (List ℕ)) → ((r : List ℕ) → List·Memᴰ r F → length r ≤ 8) → Distinct l → ((q : List ℕ) → List·Memᴰ q l → State F q × (latest q < n)) → length l ≤ statesOf n (length F)
 state-bound n F l h d only = state-count n 6 F l d only h

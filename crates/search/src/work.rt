@@ -8,7 +8,7 @@ ghost use Rattle.automaton.specs.Area.{Given};
 ghost use Rattle.automaton.specs.Count.{statesOf, mostStates};
 ghost use Rattle.limits.specs.Limits.{longest};
 ghost use Rattle.search.specs.Plan.{Asked, Answered};
-ghost use Rattle.search.specs.Work.{Work};
+ghost use Rattle.search.specs.Work.{usualStates, Work};
 use crate::Found;
 use crate::product::distances_to;
 use crate::route::least_walk;
@@ -90,7 +90,7 @@ fn usual_search(
     walk: &mut [u8],
 ) -> Found
     requires { ⌜ Asked (now weights) vertices (now paths) count start (now walk) ⌝ }
-    requires { ⌜ statesOf vertices count ≤ 160 ⌝ }
+    requires { ⌜ statesOf vertices count ≤ usualStates ⌝ }
     ensures { λ r. ⌜ Answered (now (weights .entry)) vertices (now (paths .entry)) count start end (now (walk .entry)) r (now (walk .exit)) ⌝ }
 {
     let mut steps = [0u16; USUAL_STEPS];

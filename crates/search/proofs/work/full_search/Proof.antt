@@ -1,4 +1,5 @@
--- `search::work::full_search` meets its contract: the arrays have room for 1,600 states. Assumes nothing.
+-- `search::work::full_search` meets its contract: the arrays have room for all states. Assumes nothing.
+use Rattle.automaton.specs.Count.{mostStates}
 use Rattle.search.specs.Work.{blank-work}
 use borrow.Author.Needs.{needs}
 use Rattle.search.proofs.work.full_search.Statement.{statement}
@@ -37,7 +38,7 @@ slice-aggregate-search-in-10 c = search needs
 search-in-requires : tie.Need-search-in-requires
 search-in-requires c κs =
     let s = c .before .before .before .before .before .before .before .before .before .before .before .before .before in
-    (s .pre .0, blank-work _ 1600 (s .pre .1))
+    (s .pre .0, blank-work _ mostStates (s .pre .1))
 
 same-length : tie.Need-same-length
 same-length c = search needs

@@ -1,5 +1,5 @@
--- `search::work::usual_search` meets its contract: the arrays have room for 160 states. Assumes nothing.
-use Rattle.search.specs.Work.{blank-work}
+-- `search::work::usual_search` meets its contract: the arrays have room for a usual number of states. Assumes nothing.
+use Rattle.search.specs.Work.{usualStates, blank-work}
 use borrow.Author.Needs.{needs}
 use Rattle.search.proofs.work.usual_search.Statement.{statement}
 use Rattle.search.proofs.work.usual_search.Tie as tie
@@ -37,7 +37,7 @@ slice-aggregate-search-in-10 c = search needs
 search-in-requires : tie.Need-search-in-requires
 search-in-requires c κs =
     let s = c .before .before .before .before .before .before .before .before .before .before .before .before .before in
-    (s .pre .0, blank-work _ 160 (s .pre .1))
+    (s .pre .0, blank-work _ usualStates (s .pre .1))
 
 same-length : tie.Need-same-length
 same-length c = search needs
