@@ -19,7 +19,7 @@ use Rattle.book.specs.Reading.{accepted, reading, refusalOf, bookIn}
 use Rattle.rules.specs.Binding.{known}
 use Rattle.search.specs.declared.Found.{Found}
 use Rattle.search.specs.declared.Found.the-variants.{Walk, Nothing}
-use Rattle.search.specs.Plan.{PlannedWalk, Planned as Searched}
+use Rattle.search.specs.Plan.{PlannedWalk, Searched}
 use Rattle.answer.specs.Text.{planText, walkText, refusalText, foundText}
 use Rattle.answer.specs.Writing.{Standing}
 use Rattle.answer.specs.Answer.{AnsweredUnder, AnsweredAs, answerTests, AnsweredOf, AnsweredBy, Answered, Printed}

@@ -6,6 +6,7 @@ use native.Mathlib.Omega.{arith}
 use native.Mathlib.Decide.{ℕ-discrete}
 use lib.ListN.{length, getD, set, length-set}
 use lib.Seq.{getD-set-same, getD-set-other}
+use Rattle.limits.specs.Limits.{mostPaths}
 use Rattle.automaton.specs.Rows.{Filled, Copied, Singles, Starts}
 
 pub filled-none : {old : List ℕ} {from : ℕ} → Filled old old from 0
@@ -39,10 +40,10 @@ copied-more {old} {new} {from} {to} {k} f apart room = record {
     there v h (yes e) = rw e (getD-set-same new (to + k) y 0 (omega (arith, f .size)) ∙ f .before (from + k) apart)
     there v h (no e) = getD-set-other new (to + k) (to + v) y 0 (omega arith) ∙ f .there v (omega arith)
 
-pub starts-none : {area current : List ℕ} → length current ≡ 256 → Starts area 0 current
+pub starts-none : {area current : List ℕ} → length current ≡ mostPaths → Starts area 0 current
 starts-none e = record { size = e; first = λ j h. absurd (omega arith) }
 
-pub starts-more : {area current : List ℕ} {k : ℕ} → Starts area k current → k < 256 → Starts area (k + 1) (set current k (getD area (k * 9 + 1) 0))
+pub starts-more : {area current : List ℕ} {k : ℕ} → Starts area k current → k < mostPaths → Starts area (k + 1) (set current k (getD area (k * 9 + 1) 0))
 starts-more {area} {current} {k} s room = record { size = length-set current k y ∙ s .size; first = λ j h. first j h (ℕ-discrete j k) }
   where
     y : ℕ
@@ -52,17 +53,14 @@ starts-more {area} {current} {k} s room = record { size = length-set current k y
     first j h (yes e) = rw e (getD-set-same current k y 0 (omega (arith, s .size)))
     first j h (no e) = getD-set-other current k j y 0 e ∙ s .first j (omega arith)
 
-pub singles-none : {n : ℕ} {steps marks latests : List ℕ} → length steps ≡ 102400 → length marks ≡ 1600 → length latests ≡ 1600 → Singles n 0 steps marks latests
-singles-none a b c =
-    record { steps-size = a; marks-size = b; latests-size = c; rows = λ q v h. absurd (omega arith); marks-are = λ q h. absurd (omega arith); latests-are = λ q h. absurd (omega arith) }
+pub singles-none : {n : ℕ} {steps blockeds latests : List ℕ} → Singles n 0 steps blockeds latests
+singles-none = record { rows = λ q v h. absurd (omega arith); blockeds-are = λ q h. absurd (omega arith); latests-are = λ q h. absurd (omega arith) }
 
-pub singles-more : {n k : ℕ} {steps marks latests new : List ℕ} → Singles n k steps marks latests → Filled steps new (k * 64) n → k < n → n ≤ 64 → Singles n (k + 1) new (set marks k 0) (set latests k k)
-singles-more {n} {k} {marks = marks} {latests = latests} {new} s f here small = record {
-  steps-size = f .size ∙ s .steps-size;
-  marks-size = length-set marks k 0 ∙ s .marks-size;
-  latests-size = length-set latests k k ∙ s .latests-size;
+pub singles-more : {n k : ℕ} {steps blockeds latests new : List ℕ} → Singles n k steps blockeds latests → Filled steps new (k * 64) n → k < length blockeds → k < length latests → n ≤ 64
+    → Singles n (k + 1) new (set blockeds k 0) (set latests k k)
+singles-more {n} {k} {blockeds = blockeds} {latests = latests} {new} s f blocked-here latest-here small = record {
   rows = λ q v a b. rows q v a b (ℕ-discrete q k);
-  marks-are = λ q a. marks-are q a (ℕ-discrete q k);
+  blockeds-are = λ q a. blockeds-are q a (ℕ-discrete q k);
   latests-are = λ q a. latests-are q a (ℕ-discrete q k);
 }
   where
@@ -70,10 +68,10 @@ singles-more {n} {k} {marks = marks} {latests = latests} {new} s f here small = 
     rows q v a b (yes e) = rw e (f .there v b)
     rows q v a b (no e) = f .before (q * 64 + v) (omega arith) ∙ s .rows q v (omega arith) b
 
-    marks-are : (q : ℕ) → q < k + 1 → Dec (q ≡ k) → getD (set marks k 0) q 0 ≡ 0
-    marks-are q a (yes e) = rw e (getD-set-same marks k 0 0 (omega (arith, s .marks-size)))
-    marks-are q a (no e) = getD-set-other marks k q 0 0 e ∙ s .marks-are q (omega arith)
+    blockeds-are : (q : ℕ) → q < k + 1 → Dec (q ≡ k) → getD (set blockeds k 0) q 0 ≡ 0
+    blockeds-are q a (yes e) = rw e (getD-set-same blockeds k 0 0 blocked-here)
+    blockeds-are q a (no e) = getD-set-other blockeds k q 0 0 e ∙ s .blockeds-are q (omega arith)
 
     latests-are : (q : ℕ) → q < k + 1 → Dec (q ≡ k) → getD (set latests k k) q 0 ≡ q
-    latests-are q a (yes e) = rw e (getD-set-same latests k k 0 (omega (arith, s .latests-size)))
+    latests-are q a (yes e) = rw e (getD-set-same latests k k 0 latest-here)
     latests-are q a (no e) = getD-set-other latests k q k 0 e ∙ s .latests-are q (omega arith)

@@ -12,14 +12,16 @@ use lib.Seq.{getD-set-same, getD-set-other, getD-at}
 use Rattle.automaton.specs.States.{State, vertex, latest}
 use Rattle.automaton.specs.Automaton.{go, fail, blocked, fail-single, fail-shorter, go-cases, blocked-nil}
 use Rattle.lists.specs.Distinct.{Distinct}
+use Rattle.limits.specs.Limits.{mostPaths}
+use Rattle.automaton.specs.Count.{statesOf, mostStates}
 use Rattle.automaton.specs.Built.{Numbers, bit, flag, Built}
 use Rattle.automaton.specs.Rows.{Copied}
 use Rattle.automaton.specs.Area.{Bounded}
-use Rattle.automaton.specs.Progress.{Row, Other, Mark, marked, clear, Sizes, Progress}
+use Rattle.automaton.specs.Progress.{Row, Other, BitKnown, raised, clear, Room, Progress}
 use Rattle.automaton.specs.Words.{member-index, index-member, distinct-snoc, number-member}
 use Rattle.automaton.proofs.Prefixes.{front, front-suc, state-front, complete, row-settled, blocked-fail, unblocked}
 use Rattle.automaton.proofs.Bits.{bit-zero}
-use Rattle.automaton.proofs.Turns.{few}
+use Rattle.automaton.proofs.Turns.{room-kept, counted, few}
 
 flag-true : (b : Bool) → T b → 1 ≡ flag b
 flag-true true t = refl
@@ -33,7 +35,7 @@ fail-short : (F : List (List ℕ)) (w : List ℕ) (l : ℕ) → length w ≡ suc
 fail-short F [] l e = absurd (omega arith)
 fail-short F (v ∷ w) l e = omega (arith, fail-shorter F v w)
 
-module _ {F : List (List ℕ)} {n l i first done m : ℕ} {steps marks latests fails current : List ℕ} (p : Progress F n l i first done m steps marks latests fails current) where
+module _ {F : List (List ℕ)} {n l i first done m : ℕ} {steps blockeds latests fails current : List ℕ} (p : Progress F n l i first done m steps blockeds latests fails current) where
   word-short : (q : List ℕ) → List·Memᴰ q (p .words) → length q ≤ suc l
   word-short q h = let s = member-index [] h in omega (arith, ap length (s .2), by (s .0) (omega (arith, s .1, p .numbered .count)) (decLt (s .0) first))
     where
@@ -67,12 +69,12 @@ module _ {F : List (List ℕ)} {n l i first done m : ℕ} {steps marks latests f
           cases (yes h) = h
           cases (no h) = absurd (omega (arith, p .numbered .high (getD fails done 0) (omega arith) (omega (arith, link .below, p .numbered .count)), ap length (link .is), f-short))
 
-      pub row-room : (getD fails done 0 < first) × (first ≤ done) × (m ≤ 1600) × (n ≤ 64) × (length steps ≡ 102400)
-      row-room = (link-low, p .ordered .0, few p, p .numbered .bounded .few-vertices, p .sizes .of-steps)
+      pub row-room : (getD fails done 0 < first) × (first ≤ done) × (m ≤ mostStates) × (n ≤ 64) × (m * 64 ≤ length steps) × (m ≤ length blockeds) × (m ≤ length fails)
+      row-room = (link-low, p .ordered .0, few p, p .numbered .bounded .few-vertices, omega (arith, p .room .of-steps, counted p), omega (arith, p .room .of-blockeds, counted p), omega (arith, p .room .of-fails, counted p))
 
-      -- A new state starts with the row and the mark of its failure link.
+      -- A new state starts with the row and the blocked bits of its failure link.
       row-copied : {new : List ℕ} → Copied steps new (getD fails done 0 * 64) (done * 64) n
-          → Progress F n l i first (done + 1) m new (set marks done (getD marks (getD fails done 0) 0)) latests fails current
+          → Progress F n l i first (done + 1) m new (set blockeds done (getD blockeds (getD fails done 0) 0)) latests fails current
       row-copied {new} c = record {
         words = p .words;
         numbered = p .numbered;
@@ -80,17 +82,18 @@ module _ {F : List (List ℕ)} {n l i first done m : ℕ} {steps marks latests f
         behind = p .behind;
         ahead = p .ahead;
         rows = λ u x a b. rows u x a b (ℕ-discrete u done);
-        marked-so = λ u x a. at-state u x a (ℕ-discrete u done);
+        bits = λ u x a. at-state u x a (ℕ-discrete u done);
         links = p .links;
         stands = p .stands;
-        sizes = record { of-steps = c .size ∙ p .sizes .of-steps; of-marks = length-set marks done y ∙ p .sizes .of-marks; of-latests = p .sizes .of-latests; of-fails = p .sizes .of-fails; of-current = p .sizes .of-current };
+        room = room-kept (p .room) (c .size) (length-set blockeds done y) refl refl;
+        current-size = p .current-size;
       }
         where
           f : ℕ
           f = getD fails done 0
 
           y : ℕ
-          y = getD marks f 0
+          y = getD blockeds f 0
 
           w : List ℕ
           w = getD (p .words) done []
@@ -111,25 +114,25 @@ module _ {F : List (List ℕ)} {n l i first done m : ℕ} {steps marks latests f
           too-long : (x j : ℕ) → length (getD F j []) ≤ suc l → Other F j w x
           too-long x j h e = omega (arith, ap length e, length-reverse (x ∷ w), w-size)
 
-          mark : (x b : ℕ) → Mark F l i (fail F w) x b → Mark F l i w x b
-          mark x b (marked e t) = marked e (blocked-fail F w x t)
-          mark x b (clear e g h k) =
+          known : (x b : ℕ) → BitKnown F l i (fail F w) x b → BitKnown F l i w x b
+          known x b (raised e t) = raised e (blocked-fail F w x t)
+          known x b (clear e g h k) =
               clear e (unblocked F (fail F w) x l f-short (λ j a d. h j (omega arith) a d) g) (λ j a d s. too-long x j s) (λ j a s. too-long x j (omega arith))
 
-          at-state : (u x : ℕ) → u < done + 1 → Dec (u ≡ done) → Mark F l i (getD (p .words) u []) x (bit (getD (set marks done y) u 0) x)
+          at-state : (u x : ℕ) → u < done + 1 → Dec (u ≡ done) → BitKnown F l i (getD (p .words) u []) x (bit (getD (set blockeds done y) u 0) x)
           at-state u x a (yes e) =
-              subst (λ z. Mark F l i (getD (p .words) z []) x (bit (getD (set marks done y) z 0) x)) (sym e)
-              (subst (λ z. Mark F l i w x (bit z x)) (sym (getD-set-same marks done y 0 (omega (arith, p .sizes .of-marks, few p))))
-              (mark x (bit y x) (subst (λ z. Mark F l i z x (bit y x)) (link .is) (p .marked-so f x (omega (arith, link-low, p .ordered))))))
+              subst (λ z. BitKnown F l i (getD (p .words) z []) x (bit (getD (set blockeds done y) z 0) x)) (sym e)
+              (subst (λ z. BitKnown F l i w x (bit z x)) (sym (getD-set-same blockeds done y 0 (omega (arith, p .room .of-blockeds, counted p))))
+              (known x (bit y x) (subst (λ z. BitKnown F l i z x (bit y x)) (link .is) (p .bits f x (omega (arith, link-low, p .ordered))))))
           at-state u x a (no e) =
-              subst (λ z. Mark F l i (getD (p .words) u []) x (bit z x)) (sym (getD-set-other marks done u y 0 e)) (p .marked-so u x (omega arith))
+              subst (λ z. BitKnown F l i (getD (p .words) u []) x (bit z x)) (sym (getD-set-other blockeds done u y 0 e)) (p .bits u x (omega arith))
 
       pub row-copied-at : {f : ℕ} → f ≡ getD fails done 0 → {new : List ℕ} → Copied steps new (f * 64) (done * 64) n
-          → Progress F n l i first (done + 1) m new (set marks done (getD marks f 0)) latests fails current
+          → Progress F n l i first (done + 1) m new (set blockeds done (getD blockeds f 0)) latests fails current
       row-copied-at e c = rw e (row-copied (rw e at c))
 
     -- All rows are there: the next level begins.
-    pub next-level : done ≡ m → Progress F n (suc l) 0 m m m steps marks latests fails current
+    pub next-level : done ≡ m → Progress F n (suc l) 0 m m m steps blockeds latests fails current
     next-level e = record {
       words = p .words;
       numbered = record {
@@ -143,19 +146,20 @@ module _ {F : List (List ℕ)} {n l i first done m : ℕ} {steps marks latests f
         high = λ q a b. absurd (omega arith);
         all = all-next;
       };
-      sizes = p .sizes;
+      room = p .room;
+      current-size = p .current-size;
       ordered = (omega arith, omega arith);
       behind = λ j a b c. absurd (omega arith);
       ahead = λ j a b c. p .behind j (omega arith) b c;
       rows = λ q v a b. p .rows q v (omega arith) b;
-      marked-so = λ q v a. mark (getD (p .words) q []) v (bit (getD marks q 0) v) (p .marked-so q v (omega arith));
+      bits = λ q v a. known (getD (p .words) q []) v (bit (getD blockeds q 0) v) (p .bits q v (omega arith));
       links = λ q a b. absurd (omega arith);
       stands = p .stands;
     }
       where
-        mark : (w : List ℕ) (v b : ℕ) → Mark F l i w v b → Mark F (suc l) 0 w v b
-        mark w v b (marked s t) = marked s t
-        mark w v b (clear s f g h) = clear s f (λ j a c d. absurd (omega arith)) (λ j a d. g j (omega arith) a d)
+        known : (w : List ℕ) (v b : ℕ) → BitKnown F l i w v b → BitKnown F (suc l) 0 w v b
+        known w v b (raised s t) = raised s t
+        known w v b (clear s f g h) = clear s f (λ j a c d. absurd (omega arith)) (λ j a d. g j (omega arith) a d)
 
 state-short : {n : ℕ} (F : List (List ℕ)) → Bounded n F → (q : List ℕ) → State F q → length q ≤ 8
 state-short F b q s = cases (decLt 1 (length q))
@@ -167,27 +171,28 @@ state-short F b q s = cases (decLt 1 (length q))
     cases (no h) = omega arith
 
 -- After eight levels the tables are those of the automaton.
-pub finished : {F : List (List ℕ)} {n m : ℕ} {steps marks latests fails current : List ℕ} → Progress F n 8 0 m m m steps marks latests fails current → Built F n m steps marks latests
-finished {F} {n} {m} {steps} {marks} p = record {
+pub finished : {F : List (List ℕ)} {n m : ℕ} {steps blockeds latests fails current : List ℕ} → Progress F n 8 0 m m m steps blockeds latests fails current → Built F n m steps blockeds latests
+finished {F} {n} {m} {steps} {blockeds} p = record {
   words = p .words;
   count = p .numbered .count;
   few = few p;
+  counted = counted p;
   states = record { distinct = p .numbered .distinct; only = p .numbered .only; all = all };
   singles = p .numbered .singles;
   step = λ q v a b. row-settled F (p .words) (getD (p .words) q []) v (getD steps (q * 64 + v) 0) (λ w i. p .numbered .only w i .0) (λ s. all (v ∷ getD (p .words) q []) s b) (p .rows q v a b);
-  mark = λ q v a. mark (getD (p .words) q []) v (bit (getD marks q 0) v) (p .numbered .low q a) (p .marked-so q v a);
+  bits = λ q v a. known (getD (p .words) q []) v (bit (getD blockeds q 0) v) (p .numbered .low q a) (p .bits q v a);
   stands = p .stands;
-  steps-length = p .sizes .of-steps;
-  marks-length = p .sizes .of-marks;
-  latests-length = p .sizes .of-latests;
+  steps-room = omega (arith, p .room .of-steps, counted p);
+  blockeds-room = omega (arith, p .room .of-blockeds, counted p);
+  latests-room = omega (arith, p .room .of-latests, counted p);
 }
   where
     all : (q : List ℕ) → State F q → latest q < n → List·Memᴰ q (p .words)
     all q s h = complete F n 8 (p .words) (p .numbered .singles) (p .numbered .all) q s h (state-short F (p .numbered .bounded) q s)
 
-    mark : (w : List ℕ) (v b : ℕ) → length w ≤ 8 → Mark F 8 0 w v b → b ≡ flag (blocked F w v)
-    mark w v b a (marked e t) = e ∙ flag-true (blocked F w v) t
-    mark w v b a (clear e f g h) = e ∙ flag-false (blocked F w v) (unblocked F w v 8 a (λ j c d. h j c (p .numbered .bounded .short (getD F j []) (index-member [] F j c))) f)
+    known : (w : List ℕ) (v b : ℕ) → length w ≤ 8 → BitKnown F 8 0 w v b → b ≡ flag (blocked F w v)
+    known w v b a (raised e t) = e ∙ flag-true (blocked F w v) t
+    known w v b a (clear e f g h) = e ∙ flag-false (blocked F w v) (unblocked F w v 8 a (λ j c d. h j c (p .numbered .bounded .short (getD F j []) (index-member [] F j c))) f)
 
 -- The single vertices below n, in their order.
 unfoldable upto : ℕ → List (List ℕ)
@@ -220,14 +225,14 @@ upto-distinct zero = tt
 upto-distinct (suc n) = distinct-snoc (upto n) (n ∷ []) (upto-distinct n) (λ h. let s = upto-member n h in omega (arith, s .1, mathlib.Core.List.head-eq-of-cons-eq (s .2)))
 
 -- Before the first level: each vertex steps to each vertex, nothing is blocked, and each path stands at its first vertex.
-pub started : {F : List (List ℕ)} {n : ℕ} {steps marks latests fails current : List ℕ} → Bounded n F
+pub started : {F : List (List ℕ)} {n : ℕ} {steps blockeds latests fails current : List ℕ} → Bounded n F
     → ((q v : ℕ) → q < n → v < n → getD steps (q * 64 + v) 0 ≡ v)
-    → ((q : ℕ) → q < n → getD marks q 0 ≡ 0)
+    → ((q : ℕ) → q < n → getD blockeds q 0 ≡ 0)
     → ((q : ℕ) → q < n → getD latests q 0 ≡ q)
     → ((j : ℕ) → j < length F → getD current j 0 ≡ getD (getD F j []) 0 0)
-    → Sizes steps marks latests fails current
-    → Progress F n 1 0 n n n steps marks latests fails current
-started {F} {n} {steps} {marks} b rows-are marks-are latests-are current-is sizes = record {
+    → Room (statesOf n (length F)) steps blockeds latests fails → length current ≡ mostPaths
+    → Progress F n 1 0 n n n steps blockeds latests fails current
+started {F} {n} {steps} {blockeds} b rows-are blockeds-are latests-are current-is room current-size = record {
   words = upto n;
   numbered = record {
     bounded = b;
@@ -240,12 +245,13 @@ started {F} {n} {steps} {marks} b rows-are marks-are latests-are current-is size
     high = λ q a c. absurd (omega arith);
     all = all;
   };
-  sizes = sizes;
+  room = room;
+  current-size = current-size;
   ordered = (omega arith, omega arith);
   behind = λ j a c d. absurd (omega arith);
   ahead = λ j a c d. subst (λ z. Numbers (upto n) z (front (getD F j []) 1)) (sym (current-is j c)) (first-vertex j c);
   rows = rows;
-  marked-so = mark;
+  bits = known;
   links = λ q a c. absurd (omega arith);
   stands = λ q a. rw (upto-is n q a) (latests-are q a);
 }
@@ -280,9 +286,9 @@ started {F} {n} {steps} {marks} b rows-are marks-are latests-are current-is size
           subst (λ z. Numbers (upto n) v z) (sym (ap (λ (x : List ℕ). go F x v) (fail-single F q) ∙ go-nil v)) (singles v c),
         )))
 
-    mark : (q v : ℕ) → q < n → Mark F 1 0 (getD (upto n) q []) v (bit (getD marks q 0) v)
-    mark q v a =
-        clear (ap (λ (x : ℕ). bit x v) (marks-are q a) ∙ bit-zero v)
+    known : (q v : ℕ) → q < n → BitKnown F 1 0 (getD (upto n) q []) v (bit (getD blockeds q 0) v)
+    known q v a =
+        clear (ap (λ (x : ℕ). bit x v) (blockeds-are q a) ∙ bit-zero v)
         (λ t. let none : blocked F (fail F (q ∷ [])) v ≡ false = ap (λ (x : List ℕ). blocked F x v) (fail-single F q) ∙ blocked-nil F (b .long) v in
         rw none at (rw (upto-is n q a) at t))
         (λ j c d e. absurd (omega arith))

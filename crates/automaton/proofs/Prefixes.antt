@@ -1,4 +1,4 @@
--- Prefixes of forbidden paths as states; when a row and a mark are settled.
+-- Prefixes of forbidden paths as states; when a row and a blocked bit are settled.
 use mathlib.Core.Bool.{Bool, true, false, cond}
 use mathlib.Core.List.{List, [], _∷_, _++_, reverse, reverseAux, reverseAux-eq, reverse-reverse, reverse-append, List·Memᴰ, Memᴰ·cast}
 use mathlib.Core.Logic.{_⊎_, inl, inr}

@@ -6,6 +6,7 @@ use native.Mathlib.Omega.{arith}
 use lib.ListN.{length, getD, length-append, List·getD-append}
 use lib.Seq.{getD-append-add}
 use Rattle.walks.specs.Avoid.{Long}
+use Rattle.limits.specs.Limits.{mostVertices, mostPaths}
 use Rattle.automaton.specs.Count.{Below}
 
 -- The first `count` entries are the paths of F.
@@ -17,8 +18,8 @@ pub record Spells (area : List ℕ) (count : ℕ) (F : List (List ℕ)) : Type 0
 
 -- At most 256 paths of 2 to 8 vertices below n, of which there are at most 64.
 pub record Bounded (n : ℕ) (F : List (List ℕ)) : Type 0 where
-  pub few-vertices : n ≤ 64
-  pub few : length F ≤ 256
+  pub few-vertices : n ≤ mostVertices
+  pub few : length F ≤ mostPaths
   pub long : Long F
   pub short : (r : List ℕ) → List·Memᴰ r F → length r ≤ 8
   pub below : Below n F

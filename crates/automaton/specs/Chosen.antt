@@ -19,7 +19,8 @@ use Rattle.walks.specs.Feasible.{isFeasible, isFeasible→Feasible, Feasible→
 use Rattle.automaton.specs.States.{vertex, latest}
 use Rattle.automaton.specs.Automaton.{go, latest-go}
 use Rattle.automaton.specs.Follow.{Follows, feasible-follows}
-use Rattle.automaton.specs.Count.{state-count}
+use Rattle.automaton.specs.Count.{state-count, states-longest}
+use Rattle.limits.specs.Limits.{mostVertices, mostPaths, longest}
 use Rattle.automaton.specs.Short.{trace, length-trace, rest-of, trace-states, best-bound}
 
 -- ---- every feasible walk has a short one that does not come after it
@@ -185,22 +186,22 @@ module _ (g : Graph) where
 -- ---- the best walk
 -- The least feasible walk with at most 1,600 vertices, none where there is none.
 unfoldable pub chosen : Graph → List (List ℕ) → ℕ → ℕ → Option (List ℕ)
-chosen g F s t = leastOf g (isFeasible g F s t) (listsOf (g .count) 1600)
+chosen g F s t = leastOf g (isFeasible g F s t) (listsOf (g .count) longest)
 
 -- The right answer of planning (01: the plan, which has at most 1,600 grades, or none).
 abbrev pub Decided : Graph → List (List ℕ) → ℕ → ℕ → Option (List ℕ) → Type 0
 Decided g F s t none = None g F s t
-Decided g F s t (some w) = Best g F s t w × (length w ≤ 1600)
+Decided g F s t (some w) = Best g F s t w × (length w ≤ longest)
 
-module _ (g : Graph) (F : List (List ℕ)) (s t : ℕ) (vertices : g .count ≤ 64) (paths : length F ≤ 256) (size : (r : List ℕ) → List·Memᴰ r F → length r ≤ 8) where
+module _ (g : Graph) (F : List (List ℕ)) (s t : ℕ) (vertices : g .count ≤ mostVertices) (paths : length F ≤ mostPaths) (size : (r : List ℕ) → List·Memᴰ r F → length r ≤ 8) where
   -- A listed walk for each feasible one.
-  listed : (w : List ℕ) → Feasible g F s t w → (v : List ℕ) × List·Memᴰ v (listsOf (g .count) 1600) × T (isFeasible g F s t v) × (v ≼⟨ g ⟩ w)
+  listed : (w : List ℕ) → Feasible g F s t w → (v : List ℕ) × List·Memᴰ v (listsOf (g .count) longest) × T (isFeasible g F s t v) × (v ≼⟨ g ⟩ w)
   listed w f =
       let (v, h) = short-feasible g F s t 6 size w f in
-      (v, ∈listsOf (g .count) 1600 v (omega (arith, h .short)) (h .feasible .walk .below), Feasible→isFeasible g F s t v (h .feasible), h .before)
+      (v, ∈listsOf (g .count) longest v (states-longest (length v) (omega (arith, h .short))) (h .feasible .walk .below), Feasible→isFeasible g F s t v (h .feasible), h .before)
 
   -- So the least of the listed ones is the best of all.
-  decided : (o : Option (List ℕ)) → IsLeastOf g (isFeasible g F s t) (listsOf (g .count) 1600) o → Decided g F s t o
+  decided : (o : Option (List ℕ)) → IsLeastOf g (isFeasible g F s t) (listsOf (g .count) longest) o → Decided g F s t o
   decided none h = λ w f. let (v, m, x, b) = listed w f in h v m x
   decided (some u) h = (best, best-bound g F t best vertices paths size)
     where
@@ -215,4 +216,4 @@ module _ (g : Graph) (F : List (List ℕ)) (s t : ℕ) (vertices : g .count ≤ 
   -- The chosen walk is the best of all feasible walks, of whatever length; where none is chosen there is none.
   pub chosen-is : Decided g F s t (chosen g F s t)
   unfolding chosen
-  chosen-is = decided (chosen g F s t) (leastOf-is g (isFeasible g F s t) (listsOf (g .count) 1600))
+  chosen-is = decided (chosen g F s t) (leastOf-is g (isFeasible g F s t) (listsOf (g .count) longest))

@@ -11,6 +11,7 @@ use lib.Seq.{take-at, length-take-le, split-at}
 use Rattle.walks.specs.Avoid.{_⊆_}
 use Rattle.automaton.specs.States.{State, vertex, prefix, latest}
 use Rattle.lists.specs.Distinct.{Distinct, distinct-length, dedup}
+use Rattle.limits.specs.Limits.{mostVertices, mostPaths, longest}
 
 -- The single vertices below n.
 abbrev pub vertices : ℕ → List (List ℕ)
@@ -133,6 +134,20 @@ pub state-count : (n m : ℕ) (F l : List (List ℕ)) → Distinct l → ((q : L
 state-count n m F l d only h =
     omega (arith, distinct-length l (vertices n ++ prefixes F) d (λ q i. state-listed F n q (only q i .0) (only q i .1)), length-append (vertices n) (prefixes F), length-vertices n, length-prefixes m F h)
 
--- With at most 64 vertices and 256 paths of at most 8 vertices there are at most 1,600 states.
-pub state-bound : (n : ℕ) (F l : List (List ℕ)) → n ≤ 64 → length F ≤ 256 → ((r : List ℕ) → List·Memᴰ r F → length r ≤ 8) → Distinct l → ((q : List ℕ) → List·Memᴰ q l → State F q × (latest q < n)) → length l ≤ 1600
-state-bound n F l a b h d only = omega (arith, state-count n 6 F l d only h)
+-- How many states there are at most over n vertices with k paths: the single vertices, and the proper prefixes of 2 to 7 vertices of each path.
+abbrev pub statesOf : ℕ → ℕ → ℕ
+statesOf n k = n + k * 6
+
+-- 1,600 states, whatever the book.
+abbrev pub mostStates : ℕ
+mostStates = statesOf mostVertices mostPaths
+
+pub state-bound : (n : ℕ) (F l : List (List ℕ)) → ((r : List ℕ) → List·Memᴰ r F → length r ≤ 8) → Distinct l → ((q : List ℕ) → List·Memᴰ q l → State F q × (latest q < n)) → length l ≤ statesOf n (length F)
+state-bound n F l h d only = state-count n 6 F l d only h
+
+pub few-states : (n k : ℕ) → n ≤ mostVertices → k ≤ mostPaths → statesOf n k ≤ mostStates
+few-states n k a b = omega arith
+
+-- A walk that comes to no state twice is not too long.
+pub states-longest : (m : ℕ) → m ≤ mostStates → m ≤ longest
+states-longest m h = omega arith

@@ -10,6 +10,5 @@ pub mod Chosen
 pub mod Area
 pub mod Built
 pub mod Words
-pub mod BuiltLaws
 pub mod Progress
 pub mod Rows

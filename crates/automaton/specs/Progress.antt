@@ -9,7 +9,9 @@ use Rattle.automaton.specs.States.{State, latest}
 use Rattle.automaton.specs.Automaton.{go, fail, blocked}
 use Rattle.lists.specs.Distinct.{Distinct}
 use Rattle.automaton.specs.Area.{Spells, Bounded}
+use Rattle.automaton.specs.Count.{statesOf}
 use Rattle.automaton.specs.Built.{Numbers, bit}
+use Rattle.limits.specs.Limits.{mostPaths}
 
 -- k is the number of the child w.v, or, while that is no numbered word, of the step over v from the failure link of w.
 abbrev pub Row : List (List ℕ) → List (List ℕ) → List ℕ → ℕ → ℕ → Type 0
@@ -20,12 +22,12 @@ abbrev pub Other : List (List ℕ) → ℕ → List ℕ → ℕ → Type 0
 Other F j w v = getD F j [] ≡ reverse (v ∷ w) → ⊥
 
 -- What is known of the bit b of v at w, when the paths of at most l vertices have been entered, and of those of l + 1 the first i.
-pub data Mark (F : List (List ℕ)) (l i : ℕ) (w : List ℕ) (v b : ℕ) : Type 0 where
-  marked : b ≡ 1 → T (blocked F w v) → Mark F l i w v b
+pub data BitKnown (F : List (List ℕ)) (l i : ℕ) (w : List ℕ) (v b : ℕ) : Type 0 where
+  raised : b ≡ 1 → T (blocked F w v) → BitKnown F l i w v b
   clear : b ≡ 0 → (T (blocked F (fail F w) v) → ⊥)
       → ((j : ℕ) → j < i → j < length F → length (getD F j []) ≤ suc l → Other F j w v)
       → ((j : ℕ) → j < length F → length (getD F j []) ≤ l → Other F j w v)
-      → Mark F l i w v b
+      → BitKnown F l i w v b
 
 -- The states so far: all of at most l vertices, numbered below `first`, and some of l + 1.
 pub record Numbering (F : List (List ℕ)) (n l first m : ℕ) (words : List (List ℕ)) : Type 0 where
@@ -39,39 +41,40 @@ pub record Numbering (F : List (List ℕ)) (n l first m : ℕ) (words : List (Li
   pub high : (q : ℕ) → first ≤ q → q < m → length (getD words q []) ≡ suc l
   pub all : (j k : ℕ) → j < length F → 1 ≤ k → k ≤ l → k < length (getD F j []) → List·Memᴰ (reverse (take k (getD F j []))) words
 
-pub record Sizes (steps marks latests fails current : List ℕ) : Type 0 where
-  pub of-steps : length steps ≡ 102400
-  pub of-marks : length marks ≡ 1600
-  pub of-latests : length latests ≡ 1600
-  pub of-fails : length fails ≡ 1600
-  pub of-current : length current ≡ 256
+-- Room for that many states.
+pub record Room (most : ℕ) (steps blockeds latests fails : List ℕ) : Type 0 where
+  pub of-steps : most * 64 ≤ length steps
+  pub of-blockeds : most ≤ length blockeds
+  pub of-latests : most ≤ length latests
+  pub of-fails : most ≤ length fails
 
--- Level l, after i of the paths: `current` has the number of each path's first l + 1 vertices, or, of the paths from i on, of its first l. The rows and marks of the states below `done` are there, and the failure links of those from `first` on.
-pub record Progress (F : List (List ℕ)) (n l i first done m : ℕ) (steps marks latests fails current : List ℕ) : Type 0 where
+-- Level l, after i of the paths: `current` has the number of each path's first l + 1 vertices, or, of the paths from i on, of its first l. The rows and blocked bits of the states below `done` are there, and the failure links of those from `first` on.
+pub record Progress (F : List (List ℕ)) (n l i first done m : ℕ) (steps blockeds latests fails current : List ℕ) : Type 0 where
   pub words : List (List ℕ)
   pub numbered : Numbering F n l first m words
-  pub sizes : Sizes steps marks latests fails current
+  pub room : Room (statesOf n (length F)) steps blockeds latests fails
+  pub current-size : length current ≡ mostPaths
   pub ordered : (first ≤ done) × (done ≤ m)
   pub behind : (j : ℕ) → j < i → j < length F → suc l < length (getD F j []) → Numbers words (getD current j 0) (reverse (take (suc l) (getD F j [])))
   pub ahead : (j : ℕ) → i ≤ j → j < length F → l < length (getD F j []) → Numbers words (getD current j 0) (reverse (take l (getD F j [])))
   pub rows : (q v : ℕ) → q < done → v < n → Row F words (getD words q []) v (getD steps (q * 64 + v) 0)
-  pub marked-so : (q v : ℕ) → q < done → Mark F l i (getD words q []) v (bit (getD marks q 0) v)
+  pub bits : (q v : ℕ) → q < done → BitKnown F l i (getD words q []) v (bit (getD blockeds q 0) v)
   pub links : (q : ℕ) → first ≤ q → q < m → Numbers words (getD fails q 0) (fail F (getD words q []))
   pub stands : (q : ℕ) → q < m → getD latests q 0 ≡ latest (getD words q [])
 
 -- The bytes and the tables stand for some paths.
-pub record Reached (area : List ℕ) (count l i first done m : ℕ) (steps marks latests fails current : List ℕ) : Type 0 where
+pub record Reached (area : List ℕ) (count l i first done m : ℕ) (steps blockeds latests fails current : List ℕ) : Type 0 where
   pub paths : List (List ℕ)
   pub vertices : ℕ
   pub spells : Spells area count paths
-  pub so-far : Progress paths vertices l i first done m steps marks latests fails current
+  pub so-far : Progress paths vertices l i first done m steps blockeds latests fails current
 
 -- The states from `first` on, of which there are m in all, wait for their rows.
-pub record Waiting (n first m : ℕ) (steps marks fails : List ℕ) : Type 0 where
+pub record Waiting (n first m : ℕ) (steps blockeds fails : List ℕ) : Type 0 where
   pub paths : List (List ℕ)
   pub level : ℕ
   pub turns : ℕ
   pub latests : List ℕ
   pub current : List ℕ
   pub taken : length paths ≤ turns
-  pub so-far : Progress paths n level turns first first m steps marks latests fails current
+  pub so-far : Progress paths n level turns first first m steps blockeds latests fails current

@@ -10,8 +10,9 @@ use lib.Dec.{eqb}
 use lib.ListN.{length, getD, set, replicate, length-set, length-replicate, getD-replicate}
 use lib.Seq.{getD-set-same, getD-set-other}
 use Rattle.walks.specs.Graph.{Arc, isSome, weightIn}
+use Rattle.walks.specs.Weights.{Weights}
 use Rattle.lists.specs.Test.{and-true}
-use Rattle.book.specs.Book.{Book, All, IsArc, PairsOnce, WellFormed, given}
+use Rattle.book.specs.Book.{Book, All, IsArc, PairsOnce, WellFormed, graph, given}
 use Rattle.book.specs.BookLaws.{all-map}
 use Rattle.book.specs.Tables.{entered, weightTable}
 use Rattle.limits.specs.Limits.{noArc}
@@ -102,3 +103,10 @@ module _ (b : Book) (w : WellFormed b) (u v : ℕ) (u-fits : u < 64) (v-fits : v
       go : (o : Option ℕ) → (Option·getD o noArc ≡ noArc → ⊥) → isSome o ≡ true
       go none h = absurd (h refl)
       go (some x) h = refl
+
+pub book-weights : (b : Book) → WellFormed b → Weights (graph b) (weightTable (b .arcs))
+book-weights b w = record {
+  few = w .few-vertices;
+  entry = λ u v h k. table-weight b w u v (omega (arith, w .few-vertices)) (omega (arith, w .few-vertices));
+  light = λ u v x e. let f = found (IsArc (b .count)) (b .arcs) u v x (w .arcs-proper) e in omega (arith, f .holds .light, f .weight-is);
+}

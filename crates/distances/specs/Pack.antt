@@ -1,5 +1,5 @@
 -- A weight and a number of edges packed into one number, so that one comparison orders by weight, then by edges.
-use Prim.Native.Nat.{ℕ, suc, _+_, _*_, _<_, _≤_}
+use Prim.Native.Nat.{ℕ, suc, _+_, _-_, _*_, _<_, _≤_}
 use mathlib.Core.Path.{_≡_, refl}
 use mathlib.Core.List.{List, [], _∷_}
 use mathlib.Core.Logic.{_⊎_, inl, inr, ⊎-elim, by-cases}
@@ -7,29 +7,34 @@ use native.Mathlib.Omega.{arith}
 use native.Mathlib.Decide.{decLt}
 use lib.ListN.{length}
 use lib.Dec.{lit<}
+use Rattle.limits.specs.Limits.{heaviest}
 use Rattle.distances.specs.Edge.{Edge, _∈_, Path, total, cost, Within}
 use Rattle.distances.specs.Table.{at, inf, Least, LeastWithin}
 use Rattle.distances.specs.Shorten.{shorten, least-within}
 
+-- a packed path has fewer edges
+abbrev pub hopsLimit : ℕ
+hopsLimit = 2048
+
 abbrev pub pack : ℕ → ℕ → ℕ
-pack weight hops = weight * 2048 + hops
+pack weight hops = weight * hopsLimit + hops
 
 -- less weight, or the same with no more edges
 abbrev pub NoWorse : ℕ → ℕ → ℕ → ℕ → Type 0
 NoWorse w h w′ h′ = (w < w′) ⊎ ((w ≡ w′) × (h ≤ h′))
 
--- below 2048 edges packing keeps the order, both ways
-pub pack-order : (w h w′ h′ : ℕ) → h′ < 2048 → pack w h ≤ pack w′ h′ → NoWorse w h w′ h′
+-- below the limit packing keeps the order, both ways
+pub pack-order : (w h w′ h′ : ℕ) → h′ < hopsLimit → pack w h ≤ pack w′ h′ → NoWorse w h w′ h′
 pack-order w h w′ h′ small le = by-cases (decLt w w′) inl (λ n. inr (omega arith))
 
-pub order-pack : (w h w′ h′ : ℕ) → h < 2048 → NoWorse w h w′ h′ → pack w h ≤ pack w′ h′
+pub order-pack : (w h w′ h′ : ℕ) → h < hopsLimit → NoWorse w h w′ h′ → pack w h ≤ pack w′ h′
 order-pack w h w′ h′ small = ⊎-elim (λ l. omega arith) (λ e. omega arith)
 
--- at most 1,600 states; every edge weighs at most 1,000,000, and costs its weight and one edge, packed
+-- a path with an edge fewer than states can be packed; every edge weighs at most 1,000,000, and costs its weight and one edge, packed
 pub record Weighted (n : ℕ) (es : List Edge) (weight : Edge → ℕ) : Type 0 where
-  pub few : n ≤ 1600
+  pub few : n ≤ hopsLimit
   pub within : Within n es
-  pub light : (e : Edge) → e ∈ es → weight e ≤ 1000000
+  pub light : (e : Edge) → e ∈ es → weight e ≤ heaviest
   pub packed : (e : Edge) → e ∈ es → e .cost ≡ pack (weight e) 1
 
 -- 0 at a target, inf elsewhere
@@ -62,12 +67,12 @@ module _ {n : ℕ} {es : List Edge} {weight : Edge → ℕ} (g : Weighted n es w
   cost-packed [] q r path = refl
   cost-packed (e ∷ p) q r path = omega (arith, g .packed e (path .0), cost-packed p (e .head) r (path .2))
 
-  pub weight-bound : (p : List Edge) (q r : ℕ) → Path es q r p → total weight p ≤ length p * 1000000
+  pub weight-bound : (p : List Edge) (q r : ℕ) → Path es q r p → total weight p ≤ length p * heaviest
   weight-bound [] q r path = omega arith
   weight-bound (e ∷ p) q r path = omega (arith, g .light e (path .0), weight-bound p (e .head) r (path .2))
 
   -- a least entry below inf is the weight and the number of edges of a best path, and a least entry of inf says that there is none
-  module _ (base : List ℕ) (k q : ℕ) (small : k < 2048) where
+  module _ (base : List ℕ) (k q : ℕ) (small : k < hopsLimit) where
     pub found-within : Targets base → {d : ℕ} → LeastWithin k es base q d → d < inf →
         (r : ℕ) × (p : List Edge) × BestWithin k es weight base q r p × (d ≡ pack (total weight p) (length p))
     found-within targets l below =
@@ -103,20 +108,20 @@ module _ {n : ℕ} {es : List Edge} {weight : Edge → ℕ} (g : Weighted n es w
           (omega (arith, le (λ e. 1), total-ones p′, total-ones p″));
     }
 
-    -- a best path has fewer edges than states, so at most 1,599, and weighs at most 1,599,000,000
-    pub best-bounds : (r : ℕ) (p : List Edge) → Best es weight base q r p → (length p < n) × (total weight p ≤ 1599000000)
+    -- a best path has fewer edges than states
+    pub best-bounds : (r : ℕ) (p : List Edge) → Best es weight base q r p → (length p < n) × (total weight p ≤ length p * heaviest)
     best-bounds r p b =
         let (p′, path′, short, le) = shorten n es (g .within) p q r h (b .path) in
         let few : length p < n = ⊎-elim (λ l. absurd (omega (arith, le weight))) (λ e. omega arith) (b .best p′ r path′ (b .target)) in
-        (few, omega (arith, weight-bound p q r (b .path)))
+        (few, weight-bound p q r (b .path))
 
     pub found : Targets base → {d : ℕ} → Least es base q d → d < inf →
         (r : ℕ) × (p : List Edge) × Best es weight base q r p × (d ≡ pack (total weight p) (length p))
     found targets l below =
-        let (r, p, b, e) = found-within base 1599 q (lit< tt) targets (least-within n es (g .within) base 1599 (g .few) q h l) below in
-        (r, p, best-of-all 1599 r p (g .few) b, e)
+        let (r, p, b, e) = found-within base (hopsLimit - 1) q (lit< tt) targets (least-within n es (g .within) base (hopsLimit - 1) (g .few) q h l) below in
+        (r, p, best-of-all (hopsLimit - 1) r p (g .few) b, e)
 
     pub none-found : Least es base q inf → (r : ℕ) (p : List Edge) → Path es q r p → at base r ≡ 0 → ⊥
     none-found l r p path target =
         let (p′, path′, short, le) = shorten n es (g .within) p q r h path in
-        none-within base 1599 q (lit< tt) (least-within n es (g .within) base 1599 (g .few) q h l) r p′ path′ (omega (arith, g .few)) target
+        none-within base (hopsLimit - 1) q (lit< tt) (least-within n es (g .within) base (hopsLimit - 1) (g .few) q h l) r p′ path′ (omega (arith, g .few)) target

@@ -15,6 +15,9 @@ ghost use Rattle.distances.specs.Ready.{Ready};
 ghost use Rattle.distances.specs.Chain.{Linked};
 ghost use Rattle.distances.specs.Settle.{Lowered, Rounded};
 
+// A cost as one number is the weight times HOPS and the number of edges, which is below it.
+pub const HOPS: u32 = 2048;
+
 // The entry of a state from which no path to a target is known.
 pub const INF: u64 = 4398046511104;
 

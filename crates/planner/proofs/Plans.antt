@@ -11,7 +11,7 @@ use Rattle.book.specs.RefusalLaws.{Fails, Hold, first-fails, hold→none}
 use Rattle.rules.specs.Area.{spelled}
 use Rattle.search.specs.declared.Found.{Found}
 use Rattle.search.specs.declared.Found.the-variants.{Walk, Nothing}
-use Rattle.search.specs.Plan.{Planned as Searched}
+use Rattle.search.specs.Plan.{Searched}
 use Rattle.planner.specs.declared.Outcome.{Outcome}
 use Rattle.planner.specs.Planning.{planTests, Planned, PlanningOf}
 

@@ -1,21 +1,15 @@
 // Planning: the best walk of a book under the forbidden paths of a runs area.
 ghost use mathlib.Core.Path.{_≡_};
 ghost use mathlib.Core.Bool.{true};
-ghost use mathlib.Core.List.{List};
-ghost use Prim.Native.Nat.{ℕ, _<_, _≤_};
+ghost use Prim.Native.Nat.{_<_, _≤_};
 ghost use lib.ListN.{length};
-ghost use Rattle.walks.specs.Graph.{Graph};
-ghost use Rattle.automaton.specs.Area.{Given, Spells, Bounded};
 ghost use Rattle.book.specs.Book.{Book, graph};
 ghost use Rattle.book.specs.Reading.{accepted};
 ghost use Rattle.book.specs.Tables.{IsGraph};
 ghost use Rattle.rules.specs.Area.{spelled, valid};
 ghost use Rattle.limits.specs.Limits.{longest};
-ghost use Rattle.search.specs.Plan.{Planned as Searched};
-ghost use Rattle.search.specs.Weights.{Weights};
+ghost use Rattle.search.specs.Plan.{Searched};
 ghost use Rattle.planner.specs.Planning.{Planning, PlanningOf};
-use automaton::STATES;
-use automaton::STEPS;
 use book::Answer;
 use book::Refusal;
 use limits::AREA;
@@ -103,44 +97,5 @@ pub fn find(
     requires { ⌜ (start < vertices) × (longest ≤ length (now walk)) ⌝ }
     ensures { λ r. ⌜ ((b : Book) → IsGraph b vertices (now (weights .entry)) → Searched (graph b) (spelled count (now (paths .entry))) start end (now (walk .entry)) r (now (walk .exit))) ⌝ }
 {
-    best_walk(weights, vertices, paths, count, start as usize, end, walk)
-}
-
-// The best walk, over the automaton of the forbidden paths.
-fn best_walk(
-    weights: &[u32; PAIRS],
-    vertices: usize,
-    paths: &[u8],
-    count: usize,
-    start: usize,
-    end: u8,
-    walk: &mut [u8],
-) -> Found
-    requires { ⌜ Given (now paths) count vertices ⌝ }
-    requires { ⌜ ((g : Graph) × (g .count ≡ vertices) × Weights g (now weights)) ⌝ }
-    requires { ⌜ (start < vertices) × (longest ≤ length (now walk)) ⌝ }
-    ensures { λ r. ⌜ ((g : Graph) (F : List (List ℕ)) → g .count ≡ vertices → Weights g (now (weights .entry)) → Spells (now (paths .entry)) count F → Bounded vertices F → Searched g F start end (now (walk .entry)) r (now (walk .exit))) ⌝ }
-{
-    let mut steps = [0u16; STEPS];
-    let mut blocked = [0u64; STATES];
-    let mut latest = [0u8; STATES];
-    let states = automaton::build(
-        paths,
-        count,
-        vertices,
-        &mut steps,
-        &mut blocked,
-        &mut latest,
-    );
-    search::best_walk(
-        vertices,
-        states,
-        start,
-        end,
-        weights,
-        &steps,
-        &blocked,
-        &latest,
-        walk,
-    )
+    search::best_walk(weights, vertices, paths, count, start as usize, end, walk)
 }

@@ -15,13 +15,13 @@ use Rattle.search.specs.Route.{isUsable}
 use Rattle.search.specs.Word.{word, word-lt}
 use Rattle.search.proofs.Filling.{next-half}
 
-pub record Choosing (p : ℕ → Bool) (marks left chosen v : ℕ) : Type 0 where
-  pub left-is : left ≡ marks / 2 ^ v
+pub record Choosing (p : ℕ → Bool) (bits left chosen v : ℕ) : Type 0 where
+  pub left-is : left ≡ bits / 2 ^ v
   pub chosen-is : chosen ≡ word p v
 
-pub choosing-none : (p : ℕ → Bool) (marks : ℕ) → Choosing p marks marks 0 0
+pub choosing-none : (p : ℕ → Bool) (bits : ℕ) → Choosing p bits bits 0 0
 unfolding word
-choosing-none p marks = record { left-is = sym (div-one marks); chosen-is = refl }
+choosing-none p bits = record { left-is = sym (div-one bits); chosen-is = refl }
 
 -- The bit of a vertex below 64, as a shift of 1 gives it.
 shifted : (v : ℕ) → v < 64 → (1 * 2 ^ v) % 2 ^ 64 ≡ 2 ^ v
@@ -29,14 +29,14 @@ shifted v h =
     let fits : 2 ^ v < 2 ^ 64 = pow-lt h in
     ap (λ x. x % 2 ^ 64) (one-mul (2 ^ v)) ∙ mod-eq-of-lt fits
 
-module _ {p : ℕ → Bool} {marks left chosen v : ℕ} (c : Choosing p marks left chosen v) where
-  pub choosing-in : v < 64 → p v ≡ true → Choosing p marks (left / 2) (chosen + (1 * 2 ^ v) % 2 ^ 64) (v + 1)
+module _ {p : ℕ → Bool} {bits left chosen v : ℕ} (c : Choosing p bits left chosen v) where
+  pub choosing-in : v < 64 → p v ≡ true → Choosing p bits (left / 2) (chosen + (1 * 2 ^ v) % 2 ^ 64) (v + 1)
   unfolding word
-  choosing-in b h = record { left-is = ap (λ x. x / 2) (c .left-is) ∙ next-half marks v; chosen-is = rw (shifted v b, add-one v, h, c .chosen-is) refl }
+  choosing-in b h = record { left-is = ap (λ x. x / 2) (c .left-is) ∙ next-half bits v; chosen-is = rw (shifted v b, add-one v, h, c .chosen-is) refl }
 
-  pub choosing-out : p v ≡ false → Choosing p marks (left / 2) chosen (v + 1)
+  pub choosing-out : p v ≡ false → Choosing p bits (left / 2) chosen (v + 1)
   unfolding word
-  choosing-out h = record { left-is = ap (λ x. x / 2) (c .left-is) ∙ next-half marks v; chosen-is = rw (add-one v, h, c .chosen-is) refl }
+  choosing-out h = record { left-is = ap (λ x. x / 2) (c .left-is) ∙ next-half bits v; chosen-is = rw (add-one v, h, c .chosen-is) refl }
 
   -- The word has room for the bit of v.
   pub chosen-fits : v < 64 → chosen + (1 * 2 ^ v) % 2 ^ 64 < 2 ^ 64
@@ -45,14 +45,14 @@ module _ {p : ℕ → Bool} {marks left chosen v : ℕ} (c : Choosing p marks le
       rw (shifted v b) (omega (arith, c .chosen-is, word-lt p v, pow-suc 2 v))
 
 -- The test of a usable vertex by its parts.
-module _ (weights steps marks latests d : List ℕ) (q v : ℕ) where
-  pub usable-yes : isOpen weights steps marks latests q v ≡ true → at d (stepTo weights steps marks latests q v) + pack (arcAt weights steps marks latests q v) 1 ≡ at d q
-      → isUsable weights steps marks latests d q v ≡ true
-  usable-yes o e = rw (o, eq-eqb (at d (stepTo weights steps marks latests q v) + pack (arcAt weights steps marks latests q v) 1) (at d q) e)
+module _ (weights steps bits latests d : List ℕ) (q v : ℕ) where
+  pub usable-yes : isOpen weights steps bits latests q v ≡ true → at d (stepTo weights steps bits latests q v) + pack (arcAt weights steps bits latests q v) 1 ≡ at d q
+      → isUsable weights steps bits latests d q v ≡ true
+  usable-yes o e = rw (o, eq-eqb (at d (stepTo weights steps bits latests q v) + pack (arcAt weights steps bits latests q v) 1) (at d q) e)
 
-  pub usable-dear : isOpen weights steps marks latests q v ≡ true → (at d (stepTo weights steps marks latests q v) + pack (arcAt weights steps marks latests q v) 1 ≡ at d q → ⊥)
-      → isUsable weights steps marks latests d q v ≡ false
-  usable-dear o e = rw (o, ne-eqb (at d (stepTo weights steps marks latests q v) + pack (arcAt weights steps marks latests q v) 1) (at d q) e)
+  pub usable-dear : isOpen weights steps bits latests q v ≡ true → (at d (stepTo weights steps bits latests q v) + pack (arcAt weights steps bits latests q v) 1 ≡ at d q → ⊥)
+      → isUsable weights steps bits latests d q v ≡ false
+  usable-dear o e = rw (o, ne-eqb (at d (stepTo weights steps bits latests q v) + pack (arcAt weights steps bits latests q v) 1) (at d q) e)
 
-  pub usable-shut : isOpen weights steps marks latests q v ≡ false → isUsable weights steps marks latests d q v ≡ false
+  pub usable-shut : isOpen weights steps bits latests q v ≡ false → isUsable weights steps bits latests d q v ≡ false
   usable-shut o = rw o

@@ -33,11 +33,11 @@ pub targets-none : (latests : List ℕ) (t : ℕ) (old : List ℕ) → old ≡ t
 unfolding targets
 targets-none latests t old = refl
 
-pub stateEdges-next : (weights steps marks latests : List ℕ) (n q : ℕ)
-    → stateEdges weights steps marks latests n (q + 1) ≡ stateEdges weights steps marks latests n q ++ edgesFrom weights steps marks latests q n
+pub stateEdges-next : (weights steps blockeds latests : List ℕ) (n q : ℕ)
+    → stateEdges weights steps blockeds latests n (q + 1) ≡ stateEdges weights steps blockeds latests n q ++ edgesFrom weights steps blockeds latests q n
 unfolding stateEdges
-stateEdges-next weights steps marks latests n q = rw (add-one q) refl
+stateEdges-next weights steps blockeds latests n q = rw (add-one q) refl
 
-pub stateEdges-none : (weights steps marks latests : List ℕ) (n : ℕ) → stateEdges weights steps marks latests n 0 ≡ []
+pub stateEdges-none : (weights steps blockeds latests : List ℕ) (n : ℕ) → stateEdges weights steps blockeds latests n 0 ≡ []
 unfolding stateEdges
-stateEdges-none weights steps marks latests n = refl
+stateEdges-none weights steps blockeds latests n = refl

@@ -1,5 +1,4 @@
 pub mod Word
-pub mod Weights
 pub mod Product
 pub mod ProductLaws
 pub mod Targets
@@ -9,3 +8,4 @@ pub mod Columns
 pub mod Fits
 pub mod Scratch
 pub mod Plan
+pub mod Work

@@ -1,19 +1,22 @@
 -- What a plan is, and that the search over the tables gives it.
 use mathlib.Core.List.{List, [], _∷_, _++_}
 use mathlib.Core.Path.{_≡_, refl, sym, ap, subst, _∙_}
-use Prim.Native.Nat.{ℕ, _-_, _*_, _/_, _%_, _<_, _≤_}
+use Prim.Native.Nat.{ℕ, _-_, _/_, _%_, _<_, _≤_}
 use native.Mathlib.Omega.{arith}
-use lib.ListN.{length, take, drop, replicate, length-replicate}
-use lib.Seq.{length-take-le}
+use lib.ListN.{length, drop}
 use Rattle.walks.specs.Graph.{Graph}
 use Rattle.walks.specs.Walk.{weightOf, hops}
 use Rattle.walks.specs.Avoid.{Avoids}
 use Rattle.walks.specs.Best.{Best, None}
 use Rattle.distances.specs.Table.{at, inf, passes}
+use Rattle.automaton.specs.Area.{Spells, Bounded, Given}
+use Rattle.automaton.specs.Count.{mostStates, states-longest}
 use Rattle.automaton.specs.Built.{Built}
+use Rattle.distances.specs.Pack.{hopsLimit}
+use Rattle.limits.specs.Limits.{longest}
 use Rattle.search.specs.declared.Found.{Found}
 use Rattle.search.specs.declared.Found.the-variants.{Walk, Nothing}
-use Rattle.search.specs.Weights.{Weights}
+use Rattle.walks.specs.Weights.{Weights}
 use Rattle.search.specs.Product.{stateEdges}
 use Rattle.search.specs.Targets.{targets}
 use Rattle.search.specs.Distance.{bounded}
@@ -29,63 +32,71 @@ pub record PlannedWalk (g : Graph) (F : List (List ℕ)) (s t : ℕ) (old : List
   pub area-is : new ≡ walk ++ drop (length walk) old
 
 -- 01, 'Planning': the answer and the area after it, for the walks of g from s to t that avoid F.
-abbrev pub Planned : Graph → List (List ℕ) → ℕ → ℕ → List ℕ → Found → List ℕ → Type 0
-Planned g F s t old (Walk weight hops′) new = PlannedWalk g F s t old weight hops′ new
-Planned g F s t old Nothing new = None g F s t × (new ≡ old)
+abbrev pub Searched : Graph → List (List ℕ) → ℕ → ℕ → List ℕ → Found → List ℕ → Type 0
+Searched g F s t old (Walk weight hops′) new = PlannedWalk g F s t old weight hops′ new
+Searched g F s t old Nothing new = None g F s t × (new ≡ old)
 
 -- The tables are those of the graph g and of the automaton of F.
-pub record Prepared (g : Graph) (F : List (List ℕ)) (n m : ℕ) (weights steps marks latests : List ℕ) : Type 0 where
+pub record Prepared (g : Graph) (F : List (List ℕ)) (n m : ℕ) (weights steps blockeds latests : List ℕ) : Type 0 where
   pub count-is : g .count ≡ n
-  pub built : Built F n m steps marks latests
+  pub built : Built F n m steps blockeds latests
   pub table : Weights g weights
-  pub steps-room : m * 64 ≤ length steps
-  pub marks-room : m ≤ length marks
-  pub latests-room : m ≤ length latests
 
-module _ {g : Graph} {F : List (List ℕ)} {n m : ℕ} {weights steps marks latests : List ℕ} (p : Prepared g F n m weights steps marks latests) where
-  built-of : Built F (g .count) m steps marks latests
+-- ... and d has the distances of its states to t.
+pub record Measured (g : Graph) (F : List (List ℕ)) (n t : ℕ) (weights steps blockeds latests d : List ℕ) : Type 0 where
+  pub prepared : Prepared g F n (length d) weights steps blockeds latests
+  pub final : d ≡ passes (stateEdges weights steps blockeds latests n (length d)) (length d) (targets latests t (length d))
+
+module _ {g : Graph} {F : List (List ℕ)} {n m : ℕ} {weights steps blockeds latests : List ℕ} (p : Prepared g F n m weights steps blockeds latests) where
+  built-of : Built F (g .count) m steps blockeds latests
   built-of = rw (p .count-is) (p .built)
 
-  pub prepared-fits : Fits n m weights steps marks latests
-  prepared-fits = rw (p .count-is) at (fits built-of (p .table) (p .steps-room) (p .marks-room) (p .latests-room))
+  pub prepared-fits : Fits n m weights steps blockeds latests
+  prepared-fits = rw (p .count-is) at (fits built-of (p .table))
 
   pub prepared-start : (s : ℕ) → s < n → s < m
   prepared-start s below = omega (arith, p .built .singles s below .below, p .built .count)
 
-  -- The distances d to t as the passes give them.
-  module _ (t : ℕ) (d : List ℕ) (final : d ≡ passes (stateEdges weights steps marks latests n m) m (targets latests t m)) where
-    final-of : d ≡ passes (stateEdges weights steps marks latests (g .count) m) m (targets latests t m)
-    final-of = rw (p .count-is) final
+module _ {g : Graph} {F : List (List ℕ)} {n t : ℕ} {weights steps blockeds latests d : List ℕ} (r : Measured g F n t weights steps blockeds latests d) where
+  final-of : d ≡ passes (stateEdges weights steps blockeds latests (g .count) (length d)) (length d) (targets latests t (length d))
+  final-of = rw (r .prepared .count-is) (r .final)
 
-    pub prepared-guiding : Guiding n weights steps marks latests d
-    prepared-guiding = rw (p .count-is) at (guiding built-of (p .table) (p .steps-room) (p .marks-room) (p .latests-room) t d final-of)
+  pub measured-guiding : Guiding n weights steps blockeds latests d
+  measured-guiding = rw (r .prepared .count-is) at (guiding (built-of (r .prepared)) (r .prepared .table) t d final-of)
 
-    module _ (s : ℕ) (below : s < n) where
-      start-below : s < g .count
-      start-below = rw (p .count-is) below
+  module _ (s : ℕ) (below : s < n) where
+    pub measured-start : s < length d
+    measured-start = prepared-start (r .prepared) s below
 
-      -- There is room for the walk.
-      pub start-short : at d s < inf → at d s % 2048 < 1600
-      start-short near = bounded built-of (p .table) t d final-of s (prepared-start s below) near .1
+    start-below : s < g .count
+    start-below = rw (r .prepared .count-is) below
 
-      module _ (clear : Avoids F (s ∷ [])) (old : List ℕ) where
-        pub planned-none : inf ≤ at d s → Planned g F s t old Nothing old
-        planned-none far = (start-none built-of (p .table) t d final-of s start-below clear far, refl)
+    -- There is room for the walk.
+    pub start-short : at d s < inf → at d s % hopsLimit < longest
+    start-short near = omega (arith, states-longest mostStates (omega arith), bounded (built-of (r .prepared)) (r .prepared .table) t d final-of s measured-start near .1)
 
-        pub planned-walk : at d s < inf → (k : ℕ) (new : List ℕ) → k ≡ length (walkFrom weights steps marks latests d n s) → new ≡ walkFrom weights steps marks latests d n s ++ drop k old
-            → Planned g F s t old (Walk (at d s / 2048) (k - 1)) new
-        planned-walk near k new size area = record {
-          walk = walkFrom weights steps marks latests d n s;
-          best = subst (λ x. Best g F s t (walkFrom weights steps marks latests d x s)) (p .count-is) (walk-best built-of (p .table) t d final-of s start-below clear near);
-          weight-is = sym (subst (λ x. weightOf g (walkFrom weights steps marks latests d x s) ≡ at d s / 2048) (p .count-is) (walk-weight built-of (p .table) t d final-of s start-below clear near));
-          hops-is = omega arith;
-          area-is = area ∙ ap (λ x. walkFrom weights steps marks latests d n s ++ drop x old) size;
-        }
+    module _ (clear : Avoids F (s ∷ [])) (old : List ℕ) where
+      pub searched-none : inf ≤ at d s → Searched g F s t old Nothing old
+      searched-none far = (start-none (built-of (r .prepared)) (r .prepared .table) t d final-of s start-below clear far, refl)
 
--- The front of an array of k zeros as a table for m states.
-pub front-length : (m k : ℕ) → m ≤ k → length (take {A = ℕ} m (replicate k 0)) ≡ m
-front-length m k h = length-take-le {A = ℕ} m (replicate k 0) (rw length-replicate h)
+      pub searched-walk : at d s < inf → (k : ℕ) (new : List ℕ) → k ≡ length (walkFrom weights steps blockeds latests d n s) → new ≡ walkFrom weights steps blockeds latests d n s ++ drop k old
+          → Searched g F s t old (Walk (at d s / hopsLimit) (k - 1)) new
+      searched-walk near k new size area = record {
+        walk = walkFrom weights steps blockeds latests d n s;
+        best = subst (λ x. Best g F s t (walkFrom weights steps blockeds latests d x s)) (r .prepared .count-is) (walk-best (built-of (r .prepared)) (r .prepared .table) t d final-of s start-below clear near);
+        weight-is = sym (subst (λ x. weightOf g (walkFrom weights steps blockeds latests d x s) ≡ at d s / hopsLimit) (r .prepared .count-is) (walk-weight (built-of (r .prepared)) (r .prepared .table) t d final-of s start-below clear near));
+        hops-is = omega arith;
+        area-is = area ∙ ap (λ x. walkFrom weights steps blockeds latests d n s ++ drop x old) size;
+      }
 
-pub prepared-front : {g : Graph} {F : List (List ℕ)} {n m : ℕ} {weights steps marks latests : List ℕ} (k : ℕ) → m ≤ k → Prepared g F n m weights steps marks latests
-    → Prepared g F n (length (take {A = ℕ} m (replicate k 0))) weights steps marks latests
-prepared-front {m = m} k h p = rw (front-length m k h) p
+-- What the search asks: the bytes spell forbidden paths, the weights are a graph's, the start is one of its vertices, and the area has room.
+pub record Asked (weights : List ℕ) (vertices : ℕ) (paths : List ℕ) (count start : ℕ) (walk : List ℕ) : Type 0 where
+  pub given : Given paths count vertices
+  pub weighed : (g : Graph) × (g .count ≡ vertices) × Weights g weights
+  pub start-below : start < vertices
+  pub area-room : longest ≤ length walk
+
+-- What it answers, for each graph and forbidden set that weights and bytes stand for.
+abbrev pub Answered : List ℕ → ℕ → List ℕ → ℕ → ℕ → ℕ → List ℕ → Found → List ℕ → Type 0
+Answered weights vertices paths count start end old r new =
+    (g : Graph) (F : List (List ℕ)) → g .count ≡ vertices → Weights g weights → Spells paths count F → Bounded vertices F → Searched g F start end old r new

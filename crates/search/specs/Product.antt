@@ -15,7 +15,7 @@ use Rattle.automaton.specs.Built.{bit}
 use Rattle.limits.specs.Limits.{noArc}
 
 -- The tables: the weights of the arcs, the steps, the blocked vertices and the latest vertex of the states.
-module _ (weights steps marks latests : List ℕ) where
+module _ (weights steps blockeds latests : List ℕ) where
   -- The weight of the arc from the vertex of state q to v, or the mark of none.
   abbrev pub arcAt : ℕ → ℕ → ℕ
   arcAt q v = getD weights (getD latests q 0 * 64 + v) 0
@@ -26,7 +26,7 @@ module _ (weights steps marks latests : List ℕ) where
 
   -- There is an arc to v, and v is not blocked.
   abbrev pub isOpen : ℕ → ℕ → Bool
-  isOpen q v = not (eqb (arcAt q v) noArc) && eqb (bit (getD marks q 0) v) 0
+  isOpen q v = not (eqb (arcAt q v) noArc) && eqb (bit (getD blockeds q 0) v) 0
 
   abbrev pub edgeOver : ℕ → ℕ → Edge
   edgeOver q v = record { tail = q; head = stepTo q v; cost = pack (arcAt q v) 1 }

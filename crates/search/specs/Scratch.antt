@@ -11,6 +11,7 @@ use Rattle.distances.specs.Edge.{edges, Within}
 use Rattle.distances.specs.Table.{at, inf, passes}
 use Rattle.distances.specs.Ready.{Ready, ready-head}
 use Rattle.distances.specs.Chain.{Linked}
+use Rattle.automaton.specs.Count.{mostStates}
 use Rattle.search.specs.Product.{stateEdges, edges-over}
 use Rattle.search.specs.Columns.{Columns, columns-edges}
 use Rattle.search.specs.Targets.{targets, length-targets, targets-are}
@@ -29,8 +30,8 @@ pub record Scratch (tails heads costs latests first next seen table : List ℕ) 
   pub first-blank : (h : ℕ) → at first h ≡ 0
   pub seen-blank : (q : ℕ) → q < length seen → at seen q ≡ inf
 
--- Room for the edges from m states, and blank tables for as many.
-pub record Room (m : ℕ) (tails heads costs first next seen : List ℕ) : Type 0 where
+-- EdgeRoom for the edges from m states, and blank tables for as many.
+pub record EdgeRoom (m : ℕ) (tails heads costs first next seen : List ℕ) : Type 0 where
   pub tails-room : m * 64 ≤ length tails
   pub heads-room : m * 64 ≤ length heads
   pub costs-room : m * 64 ≤ length costs
@@ -40,22 +41,18 @@ pub record Room (m : ℕ) (tails heads costs first next seen : List ℕ) : Type 
   pub first-blank : (h : ℕ) → at first h ≡ 0
   pub seen-blank : (q : ℕ) → q < length seen → at seen q ≡ inf
 
--- Arrays that are long enough, as they are made.
-pub blank-room : (m long short : ℕ) → m * 64 ≤ long → m ≤ short
-    → Room m (replicate long 0) (replicate long 0) (replicate long 0) (replicate short 0) (replicate long 0) (replicate short inf)
-blank-room m long short a b = record {
-  tails-room = rw length-replicate a;
-  heads-room = rw length-replicate a;
-  costs-room = rw length-replicate a;
-  next-room = rw length-replicate a;
-  first-room = rw length-replicate b;
-  seen-room = rw length-replicate b;
-  first-blank = zeros short;
-  seen-blank = λ q h. getD-replicate short q inf 0 (omega (arith, length-replicate short inf));
+-- The same for fewer states.
+pub room-less : {m most : ℕ} {tails heads costs first next seen : List ℕ} → m ≤ most → EdgeRoom most tails heads costs first next seen → EdgeRoom m tails heads costs first next seen
+room-less h r = record {
+  tails-room = omega (arith, r .tails-room);
+  heads-room = omega (arith, r .heads-room);
+  costs-room = omega (arith, r .costs-room);
+  next-room = omega (arith, r .next-room);
+  first-room = omega (arith, r .first-room);
+  seen-room = omega (arith, r .seen-room);
+  first-blank = r .first-blank;
+  seen-blank = r .seen-blank;
 }
-  where
-    zeros : (n h : ℕ) → at (replicate n 0) h ≡ 0
-    zeros n h = by-cases (decLt h n) (λ l. getD-replicate n h 0 0 l) (λ l. List·getD-eq-default (replicate n 0) 0 (omega (arith, length-replicate {A = ℕ} n 0)))
 
 module _ {tails heads costs latests first next seen table : List ℕ} (s : Scratch tails heads costs latests first next seen table) where
   -- The columns are ready to be worked on from the table of targets.
@@ -82,8 +79,8 @@ module _ {tails heads costs latests first next seen table : List ℕ} (s : Scrat
     scratch-passes = ap₂ (passes (edges tails heads costs)) (ap length written ∙ length-targets latests t (length table)) written
 
 -- Columns of the same lengths have as much room.
-pub room-kept : {m : ℕ} {tails heads costs first next seen tails′ heads′ costs′ : List ℕ} → Room m tails heads costs first next seen
-    → length tails′ ≡ length tails → length heads′ ≡ length heads → length costs′ ≡ length costs → Room m tails′ heads′ costs′ first next seen
+pub room-kept : {m : ℕ} {tails heads costs first next seen tails′ heads′ costs′ : List ℕ} → EdgeRoom m tails heads costs first next seen
+    → length tails′ ≡ length tails → length heads′ ≡ length heads → length costs′ ≡ length costs → EdgeRoom m tails′ heads′ costs′ first next seen
 room-kept r a b c = record {
   tails-room = omega (arith, r .tails-room);
   heads-room = omega (arith, r .heads-room);
@@ -95,23 +92,23 @@ room-kept r a b c = record {
   seen-blank = r .seen-blank;
 }
 
-module _ {n m : ℕ} {weights steps marks latests : List ℕ} (f : Fits n m weights steps marks latests) where
+module _ {n m : ℕ} {weights steps blockeds latests : List ℕ} (f : Fits n m weights steps blockeds latests) where
   -- Edges of the product join its states.
-  pub fits-within : Within m (stateEdges weights steps marks latests n m)
+  pub fits-within : Within m (stateEdges weights steps blockeds latests n m)
   fits-within e i =
-      let r = edges-over weights steps marks latests n m e i in
+      let r = edges-over weights steps blockeds latests n m e i in
       rw (r .edge) (r .state-below, f .state-below (r .state) (r .vertex) (r .state-below) (r .vertex-below))
 
   pub fits-latests : m ≤ length latests
   fits-latests = go m f
     where
-      go : (m : ℕ) → Fits n m weights steps marks latests → m ≤ length latests
+      go : (m : ℕ) → Fits n m weights steps blockeds latests → m ≤ length latests
       go zero f = omega arith
       go (suc m) f = f .rows m (omega arith) .latests-row
 
   -- The columns of the product's edges, cut to their number, with blank tables.
-  pub columns-scratch : {tails heads costs first next seen table : List ℕ} {k : ℕ} → m ≤ 1600 → length table ≡ m → k ≤ m * 64
-      → Room m tails heads costs first next seen → Columns tails heads costs k (stateEdges weights steps marks latests n m)
+  pub columns-scratch : {tails heads costs first next seen table : List ℕ} {k : ℕ} → m ≤ mostStates → length table ≡ m → k ≤ m * 64
+      → EdgeRoom m tails heads costs first next seen → Columns tails heads costs k (stateEdges weights steps blockeds latests n m)
       → Scratch (take k tails) (take k heads) (take k costs) latests (take m first) (take k next) (take m seen) table
   columns-scratch {tails} {heads} {costs} {first} {next} {seen} {table} {k} small size few r c =
       let a = length-take-le k tails (omega (arith, r .tails-room)) in

@@ -10,31 +10,26 @@ ghost use lib.Dec.{eqb};
 ghost use lib.ListN.{length};
 ghost use Rattle.distances.specs.Edge.{Edge, edges};
 ghost use Rattle.distances.specs.Table.{passes};
-ghost use Rattle.limits.specs.Limits.{noArc};
+ghost use Rattle.automaton.specs.Count.{mostStates};
+ghost use Rattle.limits.specs.Limits.{mostVertices, noArc};
 ghost use Rattle.search.specs.Product.{edgesFrom, stateEdges};
 ghost use Rattle.search.specs.Columns.{Columns};
 ghost use Rattle.search.specs.Targets.{targets};
 ghost use Rattle.search.specs.Fits.{Row, Fits};
-ghost use Rattle.search.specs.Scratch.{Scratch, Room};
-use automaton::STATES;
-use automaton::STEPS;
+ghost use Rattle.search.specs.Scratch.{Scratch, EdgeRoom};
+use distances::HOPS;
 use distances::INF;
 use distances::link;
 use distances::settle;
+use limits::MOST_VERTICES;
 use limits::NO_ARC;
 use limits::PAIRS;
 
-// How many states and steps there are for a usual book at most. Work tables are cleared before use, and to clear those for all
-// states would take longer than a usual search.
-const USUAL_STATES: usize = 160;
-
-const USUAL_STEPS: usize = 10240;
-
-// Whether there is an arc of that weight, and the lowest bit of the marks blocks nothing.
-pub fn is_open(weight: u32, marks: u64) -> bool
-    ensures { λ r. ⌜ r ≡ not (eqb weight noArc) && eqb (marks % 2) 0 ⌝ }
+// Whether there is an arc of that weight, and the lowest of the blocked bits is not set.
+pub fn is_open(weight: u32, bits: u64) -> bool
+    ensures { λ r. ⌜ r ≡ not (eqb weight noArc) && eqb (bits % 2) 0 ⌝ }
 {
-    weight != NO_ARC && marks % 2 == 0
+    weight != NO_ARC && bits % 2 == 0
 }
 
 // Appends the edges from state q over the vertices below n, in order, to columns with `filled` entries. Answers how many there
@@ -52,24 +47,24 @@ fn edges_from(
     filled: usize,
 ) -> usize
     requires { ⌜ Row n (now weights) (now steps) (now blocked) (now latest) q ⌝ }
-    requires { ⌜ (filled + 64 ≤ length (now tails)) × (filled + 64 ≤ length (now heads)) × (filled + 64 ≤ length (now costs)) ⌝ }
-    ensures { λ r. ⌜ r ≤ filled + 64 ⌝ }
+    requires { ⌜ (filled + mostVertices ≤ length (now tails)) × (filled + mostVertices ≤ length (now heads)) × (filled + mostVertices ≤ length (now costs)) ⌝ }
+    ensures { λ r. ⌜ r ≤ filled + mostVertices ⌝ }
     ensures { λ r. ⌜ ((es : List Edge) → Columns (now (tails .entry)) (now (heads .entry)) (now (costs .entry)) filled es → Columns (now (tails .exit)) (now (heads .exit)) (now (costs .exit)) r (es ++ edgesFrom (now (weights .entry)) (now (steps .entry)) (now (blocked .entry)) (now (latest .entry)) q n)) ⌝ }
 {
-    let arcs = latest[q] as usize * 64;
-    let row = q * 64;
-    let mut marks = blocked[q];
+    let arcs = latest[q] as usize * MOST_VERTICES;
+    let row = q * MOST_VERTICES;
+    let mut bits = blocked[q];
     let mut k = filled;
     let mut v = 0;
     while v < n {
         let weight = weights[arcs + v];
-        if is_open(weight, marks) {
+        if is_open(weight, bits) {
             tails[k] = q as u16;
             heads[k] = steps[row + v];
-            costs[k] = weight * 2048 + 1;
+            costs[k] = weight * HOPS + 1;
             k += 1;
         }
-        marks = marks / 2;
+        bits = bits / 2;
         v += 1;
     }
     k
@@ -88,8 +83,8 @@ pub fn edges(
     costs: &mut [u32],
 ) -> usize
     requires { ⌜ Fits n m (now weights) (now steps) (now blocked) (now latest) ⌝ }
-    requires { ⌜ (m * 64 ≤ length (now tails)) × (m * 64 ≤ length (now heads)) × (m * 64 ≤ length (now costs)) ⌝ }
-    ensures { λ r. ⌜ r ≤ m * 64 ⌝ }
+    requires { ⌜ (m * mostVertices ≤ length (now tails)) × (m * mostVertices ≤ length (now heads)) × (m * mostVertices ≤ length (now costs)) ⌝ }
+    ensures { λ r. ⌜ r ≤ m * mostVertices ⌝ }
     ensures { λ r. ⌜ Columns (now (tails .exit)) (now (heads .exit)) (now (costs .exit)) r (stateEdges (now (weights .entry)) (now (steps .entry)) (now (blocked .entry)) (now (latest .entry)) n m) ⌝ }
 {
     let mut k = 0;
@@ -150,7 +145,7 @@ fn distances_over(
 }
 
 // The distances of the states to the end vertex: what the passes over the product's edges end in.
-fn distances_to(
+pub fn distances_to(
     n: usize,
     end: u8,
     weights: &[u32; PAIRS],
@@ -166,8 +161,8 @@ fn distances_to(
     table: &mut [u64],
 )
     requires { ⌜ Fits n (length (now table)) (now weights) (now steps) (now blocked) (now latest) ⌝ }
-    requires { ⌜ length (now table) ≤ 1600 ⌝ }
-    requires { ⌜ Room (length (now table)) (now tails) (now heads) (now costs) (now first) (now next) (now seen) ⌝ }
+    requires { ⌜ length (now table) ≤ mostStates ⌝ }
+    requires { ⌜ EdgeRoom (length (now table)) (now tails) (now heads) (now costs) (now first) (now next) (now seen) ⌝ }
     ensures { λ _. ⌜ now (table .exit) ≡ passes (stateEdges (now (weights .entry)) (now (steps .entry)) (now (blocked .entry)) (now (latest .entry)) n (length (now (table .entry)))) (length (now (table .entry))) (targets (now (latest .entry)) end (length (now (table .entry)))) ⌝ }
 {
     let m = table.len();
@@ -183,99 +178,4 @@ fn distances_to(
         &mut seen[..m],
         table,
     );
-}
-
-// The same with work tables of its own.
-fn all_distances(
-    n: usize,
-    end: u8,
-    weights: &[u32; PAIRS],
-    steps: &[u16],
-    blocked: &[u64],
-    latest: &[u8],
-    table: &mut [u64],
-)
-    requires { ⌜ Fits n (length (now table)) (now weights) (now steps) (now blocked) (now latest) ⌝ }
-    requires { ⌜ length (now table) ≤ 1600 ⌝ }
-    ensures { λ _. ⌜ now (table .exit) ≡ passes (stateEdges (now (weights .entry)) (now (steps .entry)) (now (blocked .entry)) (now (latest .entry)) n (length (now (table .entry)))) (length (now (table .entry))) (targets (now (latest .entry)) end (length (now (table .entry)))) ⌝ }
-{
-    let mut tails = [0u16; STEPS];
-    let mut heads = [0u16; STEPS];
-    let mut costs = [0u32; STEPS];
-    let mut first = [0u32; STATES];
-    let mut next = [0u32; STEPS];
-    let mut seen = [INF; STATES];
-    distances_to(
-        n,
-        end,
-        weights,
-        steps,
-        blocked,
-        latest,
-        &mut tails,
-        &mut heads,
-        &mut costs,
-        &mut first,
-        &mut next,
-        &mut seen,
-        table,
-    );
-}
-
-// The same for a usual number of states.
-fn usual_distances(
-    n: usize,
-    end: u8,
-    weights: &[u32; PAIRS],
-    steps: &[u16],
-    blocked: &[u64],
-    latest: &[u8],
-    table: &mut [u64],
-)
-    requires { ⌜ Fits n (length (now table)) (now weights) (now steps) (now blocked) (now latest) ⌝ }
-    requires { ⌜ length (now table) ≤ 160 ⌝ }
-    ensures { λ _. ⌜ now (table .exit) ≡ passes (stateEdges (now (weights .entry)) (now (steps .entry)) (now (blocked .entry)) (now (latest .entry)) n (length (now (table .entry)))) (length (now (table .entry))) (targets (now (latest .entry)) end (length (now (table .entry)))) ⌝ }
-{
-    let mut tails = [0u16; USUAL_STEPS];
-    let mut heads = [0u16; USUAL_STEPS];
-    let mut costs = [0u32; USUAL_STEPS];
-    let mut first = [0u32; USUAL_STATES];
-    let mut next = [0u32; USUAL_STEPS];
-    let mut seen = [INF; USUAL_STATES];
-    distances_to(
-        n,
-        end,
-        weights,
-        steps,
-        blocked,
-        latest,
-        &mut tails,
-        &mut heads,
-        &mut costs,
-        &mut first,
-        &mut next,
-        &mut seen,
-        table,
-    );
-}
-
-// The same with the work tables that suffice.
-pub fn distances(
-    n: usize,
-    end: u8,
-    weights: &[u32; PAIRS],
-    steps: &[u16],
-    blocked: &[u64],
-    latest: &[u8],
-    table: &mut [u64],
-)
-    requires { ⌜ Fits n (length (now table)) (now weights) (now steps) (now blocked) (now latest) ⌝ }
-    requires { ⌜ length (now table) ≤ 1600 ⌝ }
-    ensures { λ _. ⌜ now (table .exit) ≡ passes (stateEdges (now (weights .entry)) (now (steps .entry)) (now (blocked .entry)) (now (latest .entry)) n (length (now (table .entry)))) (length (now (table .entry))) (targets (now (latest .entry)) end (length (now (table .entry)))) ⌝ }
-{
-    if table.len() <= USUAL_STATES {
-        usual_distances(n, end, weights, steps, blocked, latest, table);
-    } else {
-        all_distances(n, end, weights, steps, blocked, latest, table);
-    }
 }

@@ -7,13 +7,15 @@ ghost use Rattle.walks.specs.Graph.{Graph};
 ghost use Rattle.walks.specs.Avoid.{Avoids};
 ghost use Rattle.distances.specs.Table.{at, inf};
 ghost use Rattle.search.specs.Route.{usable, next, walkFrom};
+ghost use Rattle.distances.specs.Pack.{hopsLimit};
+ghost use Rattle.limits.specs.Limits.{longest};
 ghost use Rattle.search.specs.Fits.{Node, Guiding};
-ghost use Rattle.search.specs.Plan.{Planned, Prepared};
+ghost use Rattle.search.specs.Plan.{Searched, Measured};
 use crate::Found;
-use crate::product::distances;
 use crate::product::is_open;
-use automaton::STATES;
+use distances::HOPS;
 use distances::INF;
+use limits::MOST_VERTICES;
 use limits::PAIRS;
 
 // The usable vertices below n at state q as a word: those over which the entry falls by the arc and one hop.
@@ -29,21 +31,21 @@ fn usable(
     requires { ⌜ Node n (now weights) (now steps) (now blocked) (now latest) (now table) q ⌝ }
     ensures { λ r. ⌜ r ≡ usable (now (weights .entry)) (now (steps .entry)) (now (blocked .entry)) (now (latest .entry)) (now (table .entry)) n q ⌝ }
 {
-    let arcs = latest[q] as usize * 64;
-    let row = q * 64;
+    let arcs = latest[q] as usize * MOST_VERTICES;
+    let row = q * MOST_VERTICES;
     let here = table[q];
-    let mut marks = blocked[q];
+    let mut bits = blocked[q];
     let mut word = 0;
     let mut v = 0;
     while v < n {
         let weight = weights[arcs + v];
-        if is_open(weight, marks) {
+        if is_open(weight, bits) {
             let r = steps[row + v] as usize;
-            if table[r] + (weight * 2048 + 1) as u64 == here {
+            if table[r] + (weight * HOPS + 1) as u64 == here {
                 word += 1 << v;
             }
         }
-        marks = marks / 2;
+        bits = bits / 2;
         v += 1;
     }
     word
@@ -66,7 +68,7 @@ fn next(
 }
 
 // Writes the vertices of the best walk from `start` into the front of the area. Answers how many there are.
-pub fn walk(
+fn walk(
     n: usize,
     start: usize,
     weights: &[u32; PAIRS],
@@ -78,78 +80,46 @@ pub fn walk(
 ) -> usize
     requires { ⌜ Guiding n (now weights) (now steps) (now blocked) (now latest) (now table) ⌝ }
     requires { ⌜ (start < n) × (start < length (now table)) × (at (now table) start < inf) ⌝ }
-    requires { ⌜ at (now table) start % 2048 < length (now area) ⌝ }
+    requires { ⌜ at (now table) start % hopsLimit < length (now area) ⌝ }
     ensures { λ r. ⌜ r ≡ length (walkFrom (now (weights .entry)) (now (steps .entry)) (now (blocked .entry)) (now (latest .entry)) (now (table .entry)) n start) ⌝ }
     ensures { λ r. ⌜ now (area .exit) ≡ walkFrom (now (weights .entry)) (now (steps .entry)) (now (blocked .entry)) (now (latest .entry)) (now (table .entry)) n start ++ drop r (now (area .entry)) ⌝ }
 {
-    let count = (table[start] % 2048) as usize + 1;
+    let count = (table[start] % HOPS as u64) as usize + 1;
     area[0] = start as u8;
     let mut q = start;
     let mut k = 1;
     while k < count {
         let v = next(n, q, weights, steps, blocked, latest, table);
         area[k] = v as u8;
-        q = steps[q * 64 + v] as usize;
+        q = steps[q * MOST_VERTICES + v] as usize;
         k += 1;
     }
     count
 }
 
-// The best walk from `start` to `end`: its vertices in the front of the area; or nothing, and the area as it was. The table is
-// for the distances of the automaton's states.
-fn plan_in(
+// The best walk from `start` to where the distances lead: its vertices in the front of the area; or nothing, and the area as it
+// was.
+pub fn least_walk(
     n: usize,
     start: usize,
-    end: u8,
     weights: &[u32; PAIRS],
     steps: &[u16],
     blocked: &[u64],
     latest: &[u8],
-    table: &mut [u64],
+    table: &[u64],
     area: &mut [u8],
 ) -> Found
-    requires { ⌜ ((g : Graph) × (F : List (List ℕ)) × Prepared g F n (length (now table)) (now weights) (now steps) (now blocked) (now latest)) ⌝ }
-    requires { ⌜ (start < n) × (1600 ≤ length (now area)) ⌝ }
-    ensures { λ r. ⌜ ((g : Graph) (F : List (List ℕ)) → Prepared g F n (length (now (table .entry))) (now (weights .entry)) (now (steps .entry)) (now (blocked .entry)) (now (latest .entry)) → Avoids F (start ∷ []) → Planned g F start end (now (area .entry)) r (now (area .exit))) ⌝ }
+    requires { ⌜ ((g : Graph) × (F : List (List ℕ)) × (t : ℕ) × Measured g F n t (now weights) (now steps) (now blocked) (now latest) (now table)) ⌝ }
+    requires { ⌜ (start < n) × (longest ≤ length (now area)) ⌝ }
+    ensures { λ r. ⌜ ((g : Graph) (F : List (List ℕ)) (t : ℕ) → Measured g F n t (now (weights .entry)) (now (steps .entry)) (now (blocked .entry)) (now (latest .entry)) (now (table .entry)) → Avoids F (start ∷ []) → Searched g F start t (now (area .entry)) r (now (area .exit))) ⌝ }
 {
-    distances(n, end, weights, steps, blocked, latest, table);
     let here = table[start];
     if here == INF {
         return Found::Nothing;
     }
     let count = walk(n, start, weights, steps, blocked, latest, table, area);
     Found::Walk {
-        weight: here / 2048,
+        weight: here / HOPS as u64,
         hops: count - 1,
     }
-}
-
-// The same for the m states of the automaton, with a table of its own.
-pub fn best_walk(
-    n: usize,
-    m: usize,
-    start: usize,
-    end: u8,
-    weights: &[u32; PAIRS],
-    steps: &[u16],
-    blocked: &[u64],
-    latest: &[u8],
-    area: &mut [u8],
-) -> Found
-    requires { ⌜ ((g : Graph) × (F : List (List ℕ)) × Prepared g F n m (now weights) (now steps) (now blocked) (now latest)) ⌝ }
-    requires { ⌜ (start < n) × (1600 ≤ length (now area)) ⌝ }
-    ensures { λ r. ⌜ ((g : Graph) (F : List (List ℕ)) → Prepared g F n m (now (weights .entry)) (now (steps .entry)) (now (blocked .entry)) (now (latest .entry)) → Avoids F (start ∷ []) → Planned g F start end (now (area .entry)) r (now (area .exit))) ⌝ }
-{
-    let mut table = [0u64; STATES];
-    plan_in(
-        n,
-        start,
-        end,
-        weights,
-        steps,
-        blocked,
-        latest,
-        &mut table[..m],
-        area,
-    )
 }

@@ -16,7 +16,7 @@ use Rattle.rules.specs.Area.{written, spelled}
 use Rattle.rules.specs.Binding.{known}
 use Rattle.rules.specs.Laws.{gathered-length, gathered-spells}
 use Rattle.search.specs.declared.Found.{Found}
-use Rattle.search.specs.Plan.{Planned as Searched}
+use Rattle.search.specs.Plan.{Searched}
 use Rattle.trial_record.specs.declared.Record.{Record}
 use Rattle.trial_record.specs.Steps.{fresh, replanned, Short}
 use Rattle.trial_rules.specs.Trials.{beginTests, beginRefusal}

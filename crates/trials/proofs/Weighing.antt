@@ -15,7 +15,8 @@ use Rattle.walks.specs.Graph.{Graph, isSome, isArc, arcWeight}
 use Rattle.walks.specs.Walk.{isWalk, isWalkFrom, weightOf, weightFrom}
 use Rattle.book.specs.Book.{Book, graph}
 use Rattle.limits.specs.Limits.{noArc}
-use Rattle.search.specs.Weights.{Weights, book-weights}
+use Rattle.walks.specs.Weights.{Weights}
+use Rattle.book.specs.TableLaws.{book-weights}
 use Rattle.book.specs.Tables.{IsGraph}
 
 -- What has been weighed of a walk at u, its vertex before place i: the sum and the weight of what is left are the walk's.

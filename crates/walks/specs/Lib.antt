@@ -1,4 +1,5 @@
 pub mod Graph
+pub mod Weights
 pub mod Walk
 pub mod Avoid
 pub mod Order

@@ -23,8 +23,8 @@ add-steps c = omega arith
 mul-steps : tie.Need-mul-steps Inv-loop μ-loop
 mul-steps c = omega arith
 
-element-copy-out-steps : tie.Need-element-copy-out-steps Inv-loop μ-loop
-element-copy-out-steps c = omega arith
+slice-read-steps : tie.Need-slice-read-steps Inv-loop μ-loop
+slice-read-steps c = omega arith
 
 add-steps-2 : tie.Need-add-steps-2 Inv-loop μ-loop
 add-steps-2 c = omega arith
@@ -32,8 +32,8 @@ add-steps-2 c = omega arith
 mul-steps-2 : tie.Need-mul-steps-2 Inv-loop μ-loop
 mul-steps-2 c = omega arith
 
-element-write-steps : tie.Need-element-write-steps Inv-loop μ-loop
-element-write-steps c = omega arith
+slice-write-steps : tie.Need-slice-write-steps Inv-loop μ-loop
+slice-write-steps c = omega arith
 
 add-v : tie.Need-add-v Inv-loop μ-loop
 add-v c = omega arith
@@ -46,6 +46,9 @@ loop-again c =
     let at-loop = c .before .before in
     let a = at-loop .before .args in
     (omega arith, copied-more (at-loop .loop .inv .1) (omega arith) (omega arith))
+
+same-length : tie.Need-same-length Inv-loop μ-loop
+same-length c = omega arith
 
 returns : tie.Need-returns Inv-loop μ-loop
 returns c =
@@ -62,11 +65,12 @@ copy-row-spec =
     loop-holds
     add-steps
     mul-steps
-    element-copy-out-steps
+    slice-read-steps
     add-steps-2
     mul-steps-2
-    element-write-steps
+    slice-write-steps
     add-v
     loop-less
     loop-again
+    same-length
     returns)

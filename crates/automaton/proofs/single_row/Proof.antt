@@ -26,8 +26,8 @@ add-steps c = omega arith
 mul-steps : tie.Need-mul-steps Inv-loop μ-loop
 mul-steps c = omega arith
 
-element-write-steps : tie.Need-element-write-steps Inv-loop μ-loop
-element-write-steps c = omega arith
+slice-write-steps : tie.Need-slice-write-steps Inv-loop μ-loop
+slice-write-steps c = omega arith
 
 add-v : tie.Need-add-v Inv-loop μ-loop
 add-v c = omega arith
@@ -40,6 +40,9 @@ loop-again c =
     let at-loop = c .before in
     let a = at-loop .before .args in
     (omega arith, filled-more (at-loop .loop .inv .1) (omega arith))
+
+same-length : tie.Need-same-length Inv-loop μ-loop
+same-length c = omega arith
 
 returns : tie.Need-returns Inv-loop μ-loop
 returns c =
@@ -57,8 +60,9 @@ single-row-spec =
     cast-steps
     add-steps
     mul-steps
-    element-write-steps
+    slice-write-steps
     add-v
     loop-less
     loop-again
+    same-length
     returns)

@@ -7,7 +7,8 @@ use Rattle.book.specs.Loaded.{graph-few}
 use Rattle.book.specs.Tables.{IsGraph}
 use Rattle.rules.specs.Area.{spelled}
 use Rattle.rules.specs.ValidLaws.{valid→Valid}
-use Rattle.search.specs.Weights.{Weights, book-weights}
+use Rattle.walks.specs.Weights.{Weights}
+use Rattle.book.specs.TableLaws.{book-weights}
 use Rattle.planner.proofs.Area.{valid-spells, valid-bounded, valid-given}
 use Rattle.planner.proofs.find.Statement.{statement}
 use Rattle.planner.proofs.find.Tie as tie

@@ -3,17 +3,18 @@ use Prim.Native.Nat.{_≤_, _-_}
 use mathlib.Core.Path.{_≡_, sym, _∙_}
 use mathlib.Core.Logic.{⊎-elim}
 use native.Mathlib.Omega.{arith}
+use Rattle.limits.specs.Limits.{heaviest}
 use Rattle.search.specs.Product.{arcAt, isOpen}
 use Rattle.search.proofs.Filling.{Filling, filling-none, filling-open, filling-shut, open-test}
 use Rattle.search.proofs.product.edges_from.Statement.{statement}
 use Rattle.search.proofs.product.edges_from.Tie as tie
 
 abbrev Inv-loop : tie.InvT-loop
-Inv-loop n q weights steps blocked latest tails₀ heads₀ costs₀ filled arcs row marks₀ k₀ v₀ tails heads costs marks k v =
-    (v ≤ n) × Filling weights steps blocked latest q filled tails₀ heads₀ costs₀ tails heads costs marks k v
+Inv-loop n q weights steps blocked latest tails₀ heads₀ costs₀ filled arcs row bits₀ k₀ v₀ tails heads costs bits k v =
+    (v ≤ n) × Filling weights steps blocked latest q filled tails₀ heads₀ costs₀ tails heads costs bits k v
 
 abbrev μ-loop : tie.MeasureT-loop
-μ-loop n q weights steps blocked latest tails₀ heads₀ costs₀ filled arcs row marks₀ k₀ v₀ tails heads costs marks k v =
+μ-loop n q weights steps blocked latest tails₀ heads₀ costs₀ filled arcs row bits₀ k₀ v₀ tails heads costs bits k v =
     n - v
 
 opened : (c : tie.After-is-open Inv-loop μ-loop) →
@@ -23,12 +24,12 @@ opened : (c : tie.After-is-open Inv-loop μ-loop) →
 opened c =
     let l = c .before .before .before in
     let a = l .before .before .before .before .before .before .before .before .before .args in
-    c .is-open .ensures ∙ open-test (a .weights .now) (a .steps .now) (a .blocked .now) (a .latest .now) (a .q) (l .loop .v) (l .loop .marks) (l .loop .inv .1 .left-is)
+    c .is-open .ensures ∙ open-test (a .weights .now) (a .steps .now) (a .blocked .now) (a .latest .now) (a .q) (l .loop .v) (l .loop .bits) (l .loop .inv .1 .left-is)
 
 light : (c : tie.Then1 Inv-loop μ-loop) →
     let l = c .before .before .before .before in
     let a = l .before .before .before .before .before .before .before .before .before .args in
-    arcAt (a .weights .now) (a .steps .now) (a .blocked .now) (a .latest .now) (a .q) (l .loop .v) ≤ 1000000
+    arcAt (a .weights .now) (a .steps .now) (a .blocked .now) (a .latest .now) (a .q) (l .loop .v) ≤ heaviest
 light c =
     let l = c .before .before .before .before in
     l .before .before .before .before .before .before .before .before .before .pre .0 .light (l .loop .v) (c .before .before .before .loop-test .taken) (sym (opened (c .before)) ∙ c .if1 .taken)
@@ -45,11 +46,11 @@ mul-arcs c = omega arith
 mul-row : tie.Need-mul-row Inv-loop μ-loop
 mul-row c = omega arith
 
-mul-marks : tie.Need-mul-marks Inv-loop μ-loop
-mul-marks c = omega arith
+mul-bits : tie.Need-mul-bits Inv-loop μ-loop
+mul-bits c = omega arith
 
-shared-slice-read-marks : tie.Need-shared-slice-read-marks Inv-loop μ-loop
-shared-slice-read-marks c = omega arith
+shared-slice-read-bits : tie.Need-shared-slice-read-bits Inv-loop μ-loop
+shared-slice-read-bits c = omega arith
 
 loop-holds : tie.Need-loop-holds Inv-loop μ-loop
 loop-holds c = (omega arith, filling-none _ _ _ _ _ _ _ _ _)
@@ -145,8 +146,8 @@ edges-from-spec =
     cast-arcs
     mul-arcs
     mul-row
-    mul-marks
-    shared-slice-read-marks
+    mul-bits
+    shared-slice-read-bits
     loop-holds
     add-weight
     mul-weight

@@ -5,6 +5,7 @@ use mathlib.Core.Logic.{⊎-elim}
 use native.Mathlib.Omega.{arith}
 use lib.ListN.{length, getD}
 use Rattle.distances.specs.Table.{at, inf}
+use Rattle.limits.specs.Limits.{heaviest}
 use Rattle.search.specs.Product.{arcAt, stepTo, isOpen}
 use Rattle.search.specs.Route.{isUsable}
 use Rattle.search.proofs.Filling.{open-test}
@@ -13,11 +14,11 @@ use Rattle.search.proofs.route.usable.Statement.{statement}
 use Rattle.search.proofs.route.usable.Tie as tie
 
 abbrev Inv-loop : tie.InvT-loop
-Inv-loop n q weights steps blocked latest table arcs row here marks₀ word₀ v₀ marks word v =
-    (v ≤ n) × Choosing (isUsable weights steps blocked latest table q) (getD blocked q 0) marks word v
+Inv-loop n q weights steps blocked latest table arcs row here bits₀ word₀ v₀ bits word v =
+    (v ≤ n) × Choosing (isUsable weights steps blocked latest table q) (getD blocked q 0) bits word v
 
 abbrev μ-loop : tie.MeasureT-loop
-μ-loop n q weights steps blocked latest table arcs row here marks₀ word₀ v₀ marks word v = n - v
+μ-loop n q weights steps blocked latest table arcs row here bits₀ word₀ v₀ bits word v = n - v
 
 opened : (c : tie.After-is-open Inv-loop μ-loop) →
     let l = c .before .before .before in
@@ -26,12 +27,12 @@ opened : (c : tie.After-is-open Inv-loop μ-loop) →
 opened c =
     let l = c .before .before .before in
     let a = l .before .before .before .before .before .before .before .before .args in
-    c .is-open .ensures ∙ open-test (a .weights .now) (a .steps .now) (a .blocked .now) (a .latest .now) (a .q) (l .loop .v) (l .loop .marks) (l .loop .inv .1 .left-is)
+    c .is-open .ensures ∙ open-test (a .weights .now) (a .steps .now) (a .blocked .now) (a .latest .now) (a .q) (l .loop .v) (l .loop .bits) (l .loop .inv .1 .left-is)
 
 light : (c : tie.Then1 Inv-loop μ-loop) →
     let l = c .before .before .before .before in
     let a = l .before .before .before .before .before .before .before .before .args in
-    arcAt (a .weights .now) (a .steps .now) (a .blocked .now) (a .latest .now) (a .q) (l .loop .v) ≤ 1000000
+    arcAt (a .weights .now) (a .steps .now) (a .blocked .now) (a .latest .now) (a .q) (l .loop .v) ≤ heaviest
 light c =
     let l = c .before .before .before .before in
     l .before .before .before .before .before .before .before .before .pre .row .light (l .loop .v) (c .before .before .before .loop-test .taken) (sym (opened (c .before)) ∙ c .if1 .taken)
@@ -70,11 +71,11 @@ mul-here c = omega arith
 shared-slice-read-here : tie.Need-shared-slice-read-here Inv-loop μ-loop
 shared-slice-read-here c = omega arith
 
-mul-marks : tie.Need-mul-marks Inv-loop μ-loop
-mul-marks c = omega arith
+mul-bits : tie.Need-mul-bits Inv-loop μ-loop
+mul-bits c = omega arith
 
-shared-slice-read-marks : tie.Need-shared-slice-read-marks Inv-loop μ-loop
-shared-slice-read-marks c = omega arith
+shared-slice-read-bits : tie.Need-shared-slice-read-bits Inv-loop μ-loop
+shared-slice-read-bits c = omega arith
 
 loop-holds : tie.Need-loop-holds Inv-loop μ-loop
 loop-holds c = (omega arith, choosing-none _ _)
@@ -163,8 +164,8 @@ usable-spec =
     mul-row
     mul-here
     shared-slice-read-here
-    mul-marks
-    shared-slice-read-marks
+    mul-bits
+    shared-slice-read-bits
     loop-holds
     add-weight
     mul-weight

@@ -4,6 +4,7 @@ use mathlib.Core.Path.{_≡_, refl, _∙_}
 use native.Mathlib.Omega.{arith}
 use lib.ListN.{length, set, length-set}
 use Rattle.distances.specs.Table.{at}
+use Rattle.distances.specs.Pack.{hopsLimit}
 use Rattle.search.specs.Product.{stepTo}
 use Rattle.search.specs.Route.{next}
 use Rattle.search.specs.Fits.{Row, node}
@@ -13,10 +14,10 @@ use Rattle.search.proofs.route.walk.Tie as tie
 
 abbrev Inv-loop : tie.InvT-loop
 Inv-loop n start weights steps blocked latest table area₀ count q₀ k₀ area q k =
-    (k ≤ at table start % 2048 + 1) × (length area ≡ length area₀) × Walking weights steps blocked latest table n start area₀ area q k
+    (k ≤ at table start % hopsLimit + 1) × (length area ≡ length area₀) × Walking weights steps blocked latest table n start area₀ area q k
 
 abbrev μ-loop : tie.MeasureT-loop
-μ-loop n start weights steps blocked latest table area₀ count q₀ k₀ area q k = at table start % 2048 + 1 - k
+μ-loop n start weights steps blocked latest table area₀ count q₀ k₀ area q k = at table start % hopsLimit + 1 - k
 
 row : (s : tie.Start Inv-loop μ-loop) (q : ℕ) → q < length (s .args .table .now) → Row (s .args .n) (s .args .weights .now) (s .args .steps .now) (s .args .blocked .now) (s .args .latest .now) q
 row s q h = node (s .pre .0) q h .row
@@ -118,6 +119,12 @@ returns c =
     let a = s .args in
     walking-done (a .weights .now) (a .steps .now) (a .blocked .now) (a .latest .now) (a .table .now) (a .n) (a .start) (a .area .now) (l .loop .inv .2) (c .loop-test .left)
 
+cast-count : tie.Need-cast-count Inv-loop μ-loop
+cast-count c = omega arith
+
+rem-count : tie.Need-rem-count Inv-loop μ-loop
+rem-count c = omega arith
+
 pub walk-spec : {M : Type 1} → statement M
 walk-spec =
     tie.close
@@ -126,6 +133,8 @@ walk-spec =
     μ-loop
     mul-count
     shared-slice-read-count
+    cast-count
+    rem-count
     add-count
     cast-area
     slice-write-area
