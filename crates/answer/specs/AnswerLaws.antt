@@ -17,9 +17,9 @@ use Rattle.book.specs.RefusalLaws.{Fails, Hold, first-fails, hold→none}
 use Rattle.book.specs.Book.{Book, graph}
 use Rattle.book.specs.Reading.{accepted, reading, refusalOf, bookIn}
 use Rattle.rules.specs.Binding.{known}
-use Rattle.search.specs.declared.Found.{Found}
-use Rattle.search.specs.declared.Found.the-variants.{Walk, Nothing}
-use Rattle.search.specs.Plan.{PlannedWalk, Searched}
+use Rattle.routes.specs.declared.Found.{Found}
+use Rattle.routes.specs.declared.Found.the-variants.{Walk, Nothing}
+use Rattle.routes.specs.Plan.{PlannedWalk, Searched}
 use Rattle.answer.specs.Text.{planText, walkText, refusalText, foundText}
 use Rattle.answer.specs.Writing.{Standing}
 use Rattle.answer.specs.Answer.{AnsweredUnder, AnsweredAs, answerTests, AnsweredOf, AnsweredBy, Answered, Printed}

@@ -9,8 +9,8 @@ use Rattle.walks.specs.Walk.{weightOf, hops}
 use Rattle.book.specs.declared.Number.{Number}
 use Rattle.book.specs.declared.Refusal.{Refusal}
 use Rattle.book.specs.Refusal.{numberOf}
-use Rattle.search.specs.declared.Found.{Found}
-use Rattle.search.specs.declared.Found.the-variants.{Walk, Nothing}
+use Rattle.routes.specs.declared.Found.{Found}
+use Rattle.routes.specs.declared.Found.the-variants.{Walk, Nothing}
 
 -- The digits of n, the last `most` of them where there are more.
 unfoldable pub digits : ℕ → ℕ → List ℕ

@@ -21,7 +21,7 @@ use limits::MOST_SETS;
 use limits::NO_ARC;
 use limits::PAIRS;
 use lists::u16_from;
-use search::Found;
+use routes::Found;
 use text::plan_text;
 use text::refusal_text;
 use text::word;

@@ -9,9 +9,9 @@ use Rattle.book.specs.Reading.{accepted}
 use Rattle.book.specs.Refusal.{refusalBy}
 use Rattle.book.specs.RefusalLaws.{Fails, Hold, first-fails, hold→none}
 use Rattle.rules.specs.Area.{spelled}
-use Rattle.search.specs.declared.Found.{Found}
-use Rattle.search.specs.declared.Found.the-variants.{Walk, Nothing}
-use Rattle.search.specs.Plan.{Searched}
+use Rattle.routes.specs.declared.Found.{Found}
+use Rattle.routes.specs.declared.Found.the-variants.{Walk, Nothing}
+use Rattle.routes.specs.Plan.{Searched}
 use Rattle.planner.specs.declared.Outcome.{Outcome}
 use Rattle.planner.specs.Planning.{planTests, Planned, PlanningOf}
 

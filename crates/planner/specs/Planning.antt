@@ -13,7 +13,7 @@ use Rattle.book.specs.Book.{Book, graph}
 use Rattle.book.specs.Reading.{Reading, reading, refusalOf, bookIn}
 use Rattle.rules.specs.Area.{spelled, valid}
 use Rattle.limits.specs.Limits.{areaSize, longest}
-use Rattle.search.specs.Plan.{PlannedWalk}
+use Rattle.routes.specs.Plan.{PlannedWalk}
 use Rattle.planner.specs.declared.Outcome.{Outcome}
 use Rattle.planner.specs.declared.Outcome.the-variants.{Walk, Nothing, Refused}
 

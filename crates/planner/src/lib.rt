@@ -8,7 +8,7 @@ ghost use Rattle.book.specs.Reading.{accepted};
 ghost use Rattle.book.specs.Tables.{IsGraph};
 ghost use Rattle.rules.specs.Area.{spelled, valid};
 ghost use Rattle.limits.specs.Limits.{longest};
-ghost use Rattle.search.specs.Plan.{Searched};
+ghost use Rattle.routes.specs.Plan.{Searched};
 ghost use Rattle.planner.specs.Planning.{Planning, PlanningOf};
 use book::Answer;
 use book::Refusal;
@@ -18,7 +18,7 @@ use limits::MOST_PATHS;
 use limits::MOST_SETS;
 use limits::NO_ARC;
 use limits::PAIRS;
-use search::Found;
+use routes::Found;
 
 pub enum Outcome {
     Walk { weight: u64, hops: usize },

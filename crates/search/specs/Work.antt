@@ -14,10 +14,10 @@ use Rattle.automaton.specs.Area.{Spells}
 use Rattle.automaton.specs.Count.{statesOf}
 use Rattle.automaton.specs.Built.{Built}
 use Rattle.automaton.specs.Progress.{Room}
-use Rattle.search.specs.Scratch.{EdgeRoom, room-less, room-kept}
-use Rattle.search.specs.Product.{stateEdges}
-use Rattle.search.specs.Targets.{targets}
-use Rattle.search.specs.Plan.{Prepared, Measured}
+use Rattle.routes.specs.Scratch.{EdgeRoom, room-less, room-kept}
+use Rattle.routes.specs.Product.{stateEdges}
+use Rattle.routes.specs.Targets.{targets}
+use Rattle.routes.specs.Plan.{Prepared, Measured}
 
 -- How many states a usual book has at most (01: 30 grades, 20 runs).
 abbrev pub usualStates : ℕ

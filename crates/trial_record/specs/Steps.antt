@@ -1,8 +1,8 @@
 -- The steps of the record.
 use Prim.Native.Nat.{ℕ, _+_, _<_}
 use mathlib.Core.Path.{_≡_, subst}
-use Rattle.search.specs.declared.Found.{Found}
-use Rattle.search.specs.declared.Found.the-variants.{Walk, Nothing}
+use Rattle.routes.specs.declared.Found.{Found}
+use Rattle.routes.specs.declared.Found.the-variants.{Walk, Nothing}
 use Rattle.limits.specs.Limits.{longest}
 use Rattle.trial_record.specs.declared.Record.{Record}
 

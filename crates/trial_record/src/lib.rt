@@ -4,7 +4,7 @@ ghost use Prim.Native.Nat.{_≤_, _<_};
 ghost use Rattle.limits.specs.Limits.{mostPaths};
 ghost use Rattle.trial_record.specs.Steps.{fresh, withPlan, Short, passedOf, failedOf};
 ghost use Rattle.trial_record.specs.Steps.{replanned as Steps·replanned};
-use search::Found;
+use routes::Found;
 
 // The record of 01. The stage is 0 while a walk (01: line-up) stands, 1 once it has passed, 2 where there is none.
 pub struct Record {

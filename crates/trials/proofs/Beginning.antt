@@ -15,8 +15,8 @@ use Rattle.book.specs.RefusalLaws.{Fails, Hold, first-fails, hold→none}
 use Rattle.rules.specs.Area.{written, spelled}
 use Rattle.rules.specs.Binding.{known}
 use Rattle.rules.specs.Laws.{gathered-length, gathered-spells}
-use Rattle.search.specs.declared.Found.{Found}
-use Rattle.search.specs.Plan.{Searched}
+use Rattle.routes.specs.declared.Found.{Found}
+use Rattle.routes.specs.Plan.{Searched}
 use Rattle.trial_record.specs.declared.Record.{Record}
 use Rattle.trial_record.specs.Steps.{fresh, replanned, Short}
 use Rattle.trial_rules.specs.Trials.{beginTests, beginRefusal}

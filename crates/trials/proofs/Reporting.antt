@@ -25,8 +25,8 @@ use Rattle.rules.specs.Area.{written, blocks, spelled, valid}
 use Rattle.limits.specs.Limits.{areaSize, longest}
 use Rattle.rules.specs.AreaLaws.{length-blocks}
 use Rattle.rules.specs.ValidLaws.{written-length, written-valid, written-spells}
-use Rattle.search.specs.declared.Found.{Found}
-use Rattle.search.specs.Plan.{Searched}
+use Rattle.routes.specs.declared.Found.{Found}
+use Rattle.routes.specs.Plan.{Searched}
 use Rattle.trial_record.specs.declared.Record.{Record}
 use Rattle.trials.specs.declared.Reported.{Reported}
 use Rattle.trials.specs.declared.judge.Judged.the-variants.{Standing, Refused}

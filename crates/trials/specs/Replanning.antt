@@ -13,9 +13,9 @@ use Rattle.book.specs.Book.{Book, WellFormed, graph}
 use Rattle.book.specs.BookLaws.{isPath→IsPath}
 use Rattle.rules.specs.Binding.{known}
 use Rattle.rules.specs.BindingLaws.{known-few, known-paths, known-once}
-use Rattle.search.specs.declared.Found.{Found}
-use Rattle.search.specs.declared.Found.the-variants.{Walk, Nothing}
-use Rattle.search.specs.Plan.{Searched}
+use Rattle.routes.specs.declared.Found.{Found}
+use Rattle.routes.specs.declared.Found.the-variants.{Walk, Nothing}
+use Rattle.routes.specs.Plan.{Searched}
 use Rattle.limits.specs.Limits.{longest}
 use Rattle.trial_record.specs.declared.Record.{Record}
 use Rattle.trial_rules.specs.Trials.{ForbiddenSet, Plan, Planner, Begin, beginRefusal, stageOf, litresOf, lengthOf, overlaid}

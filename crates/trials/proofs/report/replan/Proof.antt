@@ -12,7 +12,7 @@ use Rattle.book.specs.Book.{Book, graph}
 use Rattle.book.specs.Refusal.{refusalBy}
 use Rattle.rules.specs.Area.{written, spelled, valid}
 use Rattle.limits.specs.Limits.{areaSize}
-use Rattle.search.specs.Plan.{Searched}
+use Rattle.routes.specs.Plan.{Searched}
 use Rattle.trial_record.specs.declared.Record.{Record}
 use Rattle.trials.specs.declared.Reported.{Reported}
 use Rattle.trial_rules.specs.Trials.{failed}

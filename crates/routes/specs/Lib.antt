@@ -1,0 +1,10 @@
+pub mod Word
+pub mod Product
+pub mod ProductLaws
+pub mod Targets
+pub mod Distance
+pub mod Route
+pub mod Columns
+pub mod Fits
+pub mod Scratch
+pub mod Plan
