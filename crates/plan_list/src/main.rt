@@ -2,7 +2,7 @@
 // pair and bad ends.
 ghost use Rattle.planner.specs.Planning.{PlanningOf};
 ghost use Rattle.listed.specs.Listing.{listing};
-ghost use Rattle.listed.specs.Examples.{arcsA};
+ghost use Rattle.examples.specs.Listed.{arcsA};
 ghost use mathlib.Core.Path.{_≡_};
 use cases::number;
 use cases::text;
