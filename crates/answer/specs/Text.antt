@@ -12,6 +12,10 @@ use Rattle.book.specs.Refusal.{numberOf}
 use Rattle.routes.specs.declared.Found.{Found}
 use Rattle.routes.specs.declared.Found.the-variants.{Walk, Nothing}
 
+-- How many bytes a text has at most, with room to spare.
+abbrev pub longestText : ℕ
+longestText = 8192
+
 -- The digits of n, the last `most` of them where there are more.
 unfoldable pub digits : ℕ → ℕ → List ℕ
 digits zero n = []

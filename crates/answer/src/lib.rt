@@ -7,7 +7,7 @@ ghost use Rattle.book.specs.Book.{Book};
 ghost use Rattle.book.specs.Reading.{accepted, reading};
 ghost use Rattle.book.specs.Tables.{IsGraph, IsSets};
 ghost use Rattle.answer.specs.Answer.{Printed, AnsweredOf};
-ghost use Rattle.answer.specs.Text.{foundText};
+ghost use Rattle.answer.specs.Text.{foundText, longestText};
 ghost use Rattle.answer.specs.Writing.{Wrote, WroteSome, Standing};
 
 mod text;
@@ -39,7 +39,7 @@ pub fn answer(input: &[u8], out: &mut [u8; LONGEST_TEXT]) -> usize
 
 // The same into a slice.
 fn answer_in(input: &[u8], out: &mut [u8]) -> usize
-    requires { ⌜ 8192 ≤ length (now out) ⌝ }
+    requires { ⌜ longestText ≤ length (now out) ⌝ }
     ensures { λ r. ⌜ Printed (now (input .entry)) (now (out .entry)) r (now (out .exit)) ⌝ }
 {
     if input.len() < 4 {
@@ -51,7 +51,7 @@ fn answer_in(input: &[u8], out: &mut [u8]) -> usize
 
 // Loads the book, and writes the text of the answer.
 fn answer_book(bytes: &[u8], flags: u16, start: u8, end: u8, out: &mut [u8]) -> usize
-    requires { ⌜ 8192 ≤ length (now out) ⌝ }
+    requires { ⌜ longestText ≤ length (now out) ⌝ }
     ensures { λ r. ⌜ WroteSome (AnsweredOf (reading (now (bytes .entry))) flags start end) (now (out .entry)) r (now (out .exit)) ⌝ }
 {
     let mut weights = [NO_ARC; PAIRS];
@@ -90,7 +90,7 @@ fn answer_loaded(
     out: &mut [u8],
 ) -> usize
     requires { ⌜ ((b : Book) × IsGraph b vertices (now weights) × IsSets b listed (now needed) (now owners) (now entries)) ⌝ }
-    requires { ⌜ 8192 ≤ length (now out) ⌝ }
+    requires { ⌜ longestText ≤ length (now out) ⌝ }
     ensures { λ r. ⌜ ((b : Book) → IsGraph b vertices (now (weights .entry)) → IsSets b listed (now (needed .entry)) (now (owners .entry)) (now (entries .entry)) → WroteSome (AnsweredOf (accepted b) flags start end) (now (out .entry)) r (now (out .exit))) ⌝ }
 {
     if vertices <= start as usize {
@@ -109,7 +109,7 @@ fn answer_loaded(
 fn found_text(found: Found, walk: &[u8], out: &mut [u8]) -> usize
     requires { ⌜ Standing found (length (now walk)) ⌝ }
     requires { ⌜ length (now walk) ≤ longest ⌝ }
-    requires { ⌜ 8192 ≤ length (now out) ⌝ }
+    requires { ⌜ longestText ≤ length (now out) ⌝ }
     ensures { λ r. ⌜ Wrote (foundText found (now (walk .entry))) 0 (now (out .entry)) r (now (out .exit)) ⌝ }
 {
     match found {

@@ -2,7 +2,8 @@
 ghost use mathlib.Core.List.{_∷_, _++_};
 ghost use Prim.Native.Nat.{_+_, _*_, _≤_};
 ghost use lib.ListN.{length};
-ghost use Rattle.answer.specs.Text.{planText, placeText, refusalText};
+ghost use Rattle.limits.specs.Limits.{longest};
+ghost use Rattle.answer.specs.Text.{planText, placeText, refusalText, longestText};
 ghost use Rattle.answer.specs.Text.{decimal as Text·decimal, vertices as Text·vertices, followed as Text·followed};
 ghost use Rattle.answer.specs.Writing.{Wrote};
 use book::Refusal;
@@ -81,8 +82,8 @@ fn vertices(walk: &[u8], out: &mut [u8], at: usize) -> usize
 // The two lines of a plan.
 pub fn plan_text(weight: u64, hops: usize, walk: &[u8], out: &mut [u8]) -> usize
     requires { ⌜ 1 ≤ length (now walk) ⌝ }
-    requires { ⌜ length (now walk) ≤ 1600 ⌝ }
-    requires { ⌜ 8192 ≤ length (now out) ⌝ }
+    requires { ⌜ length (now walk) ≤ longest ⌝ }
+    requires { ⌜ longestText ≤ length (now out) ⌝ }
     ensures { λ r. ⌜ Wrote (planText weight hops (now (walk .entry))) 0 (now (out .entry)) r (now (out .exit)) ⌝ }
 {
     let litres = named(b"LITRES ", weight, out, 0);
@@ -106,7 +107,7 @@ fn place_text(placed: bool, place: usize, out: &mut [u8], at: usize) -> usize
 
 // The line of a refusal.
 pub fn refusal_text(r: Refusal, out: &mut [u8]) -> usize
-    requires { ⌜ 8192 ≤ length (now out) ⌝ }
+    requires { ⌜ longestText ≤ length (now out) ⌝ }
     ensures { λ n. ⌜ Wrote (refusalText r) 0 (now (out .entry)) n (now (out .exit)) ⌝ }
 {
     let told = book::number_of(r);

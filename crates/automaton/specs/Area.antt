@@ -6,15 +6,15 @@ use native.Mathlib.Omega.{arith}
 use lib.ListN.{length, getD, length-append, List·getD-append}
 use lib.Seq.{getD-append-add}
 use Rattle.walks.specs.Avoid.{Long}
-use Rattle.limits.specs.Limits.{mostVertices, mostPaths}
+use Rattle.limits.specs.Limits.{mostVertices, mostPaths, entrySize}
 use Rattle.automaton.specs.Count.{Below}
 
 -- The first `count` entries are the paths of F.
 pub record Spells (area : List ℕ) (count : ℕ) (F : List (List ℕ)) : Type 0 where
-  pub room : count * 9 ≤ length area
+  pub room : count * entrySize ≤ length area
   pub paths : length F ≡ count
-  pub size : (j : ℕ) → j < count → getD area (j * 9) 0 ≡ length (getD F j [])
-  pub vertex : (j k : ℕ) → j < count → k < length (getD F j []) → getD area (j * 9 + 1 + k) 0 ≡ getD (getD F j []) k 0
+  pub size : (j : ℕ) → j < count → getD area (j * entrySize) 0 ≡ length (getD F j [])
+  pub vertex : (j k : ℕ) → j < count → k < length (getD F j []) → getD area (j * entrySize + 1 + k) 0 ≡ getD (getD F j []) k 0
 
 -- At most 256 paths of 2 to 8 vertices below n, of which there are at most 64.
 pub record Bounded (n : ℕ) (F : List (List ℕ)) : Type 0 where
@@ -46,13 +46,13 @@ spells-cons r filling area count F nine s = record { room = omega (arith, s .roo
     later : (x y : ℕ) → x ≡ 9 + y → getD (entry ++ area) x 0 ≡ getD area y 0
     later x y e = ap (λ (z : ℕ). getD (entry ++ area) z 0) (let at : x ≡ length entry + y = omega (arith, e, nine-bytes) in at) ∙ getD-append-add entry area y 0
 
-    size : (j : ℕ) → j < suc count → getD (entry ++ area) (j * 9) 0 ≡ length (getD (r ∷ F) j [])
+    size : (j : ℕ) → j < suc count → getD (entry ++ area) (j * entrySize) 0 ≡ length (getD (r ∷ F) j [])
     size zero h = refl
-    size (suc j) h = later (suc j * 9) (j * 9) (omega arith) ∙ s .size j (omega arith)
+    size (suc j) h = later (suc j * entrySize) (j * entrySize) (omega arith) ∙ s .size j (omega arith)
 
-    vertex : (j k : ℕ) → j < suc count → k < length (getD (r ∷ F) j []) → getD (entry ++ area) (j * 9 + 1 + k) 0 ≡ getD (getD (r ∷ F) j []) k 0
+    vertex : (j k : ℕ) → j < suc count → k < length (getD (r ∷ F) j []) → getD (entry ++ area) (j * entrySize + 1 + k) 0 ≡ getD (getD (r ∷ F) j []) k 0
     vertex zero k h b =
-        ap (λ (z : ℕ). getD (entry ++ area) z 0) (let e : 0 * 9 + 1 + k ≡ suc k = omega arith in e)
+        ap (λ (z : ℕ). getD (entry ++ area) z 0) (let e : 0 * entrySize + 1 + k ≡ suc k = omega arith in e)
         ∙ List·getD-append (r ++ filling) area 0 k (omega (arith, length-append r filling))
         ∙ List·getD-append r filling 0 k b
-    vertex (suc j) k h b = later (suc j * 9 + 1 + k) (j * 9 + 1 + k) (omega arith) ∙ s .vertex j k (omega arith) b
+    vertex (suc j) k h b = later (suc j * entrySize + 1 + k) (j * entrySize + 1 + k) (omega arith) ∙ s .vertex j k (omega arith) b

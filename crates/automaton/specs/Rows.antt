@@ -3,7 +3,7 @@ use mathlib.Core.List.{List}
 use mathlib.Core.Path.{_≡_}
 use Prim.Native.Nat.{ℕ, _+_, _*_, _<_}
 use lib.ListN.{length, getD}
-use Rattle.limits.specs.Limits.{mostPaths}
+use Rattle.limits.specs.Limits.{mostPaths, entrySize}
 
 -- 0, 1, … stand from `at` on, and what is before is as it was.
 pub record Filled (old new : List ℕ) (from n : ℕ) : Type 0 where
@@ -26,4 +26,4 @@ pub record Singles (n k : ℕ) (steps blockeds latests : List ℕ) : Type 0 wher
 -- The first k paths stand at their first vertex.
 pub record Starts (area : List ℕ) (k : ℕ) (current : List ℕ) : Type 0 where
   pub size : length current ≡ mostPaths
-  pub first : (j : ℕ) → j < k → getD current j 0 ≡ getD area (j * 9 + 1) 0
+  pub first : (j : ℕ) → j < k → getD current j 0 ≡ getD area (j * entrySize + 1) 0

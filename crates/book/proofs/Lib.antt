@@ -3,7 +3,6 @@ pub mod Frame
 pub mod Padded
 pub mod Taken
 pub mod Added
-pub mod Copied
 pub mod ArcField
 pub mod PathField
 pub mod Fields

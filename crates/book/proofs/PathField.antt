@@ -5,8 +5,9 @@ use mathlib.Core.Bool.{Bool, true, false}
 use mathlib.Core.List.{List, [], _∷_, _++_}
 use native.Mathlib.Omega.{arith}
 use borrow.Author.Tests.{lt-ltb, le-ltb}
-use lib.ListN.{length, set, length-set}
-use lib.Seq.{slice, paste, length-slice}
+use lib.ListN.{length, set, take, drop}
+use lib.Seq.{paste, length-slice, take-take}
+use Rattle.lists.specs.Paste.{slice-part}
 use Rattle.book.specs.declared.Answer.{Answer}
 use Rattle.book.specs.declared.Answer.the-variants.{Read, Refused}
 use Rattle.book.specs.declared.Counts.{Counts}
@@ -48,20 +49,18 @@ module _ (c : Counts) (s : List ℕ) (b : Book) (at : ℕ) (so-far : c ≡ count
   value-is x q = ap (λ (d : Counts). simple (d .vertices) (pathAt s at)) (sym so-far) ∙ q
 
   -- the bytes that were copied, in the definition's terms
-  pub copied : (r : ℕ) → r ≡ endAt s at → c .paths < 256 → lengthAt s at ≤ 8 → (e′ : List ℕ)
+  pub copied : (r : ℕ) → r ≡ endAt s at → endAt s at ≤ length s → (e′ : List ℕ)
       → let n = r - (at + 3) in
-      let e₀ = set e (c .paths * 9) (n % 256) in
-      (c .paths * 9 + 1 + n ≤ length e₀ → e′ ≡ paste e₀ (c .paths * 9 + 1) (slice (at + 3) (at + 3 + n) s) n)
+      e′ ≡ paste (set e (c .paths * 9) (n % 256)) (c .paths * 9 + 1) (drop (at + 3) s) n
       → e′ ≡ paste (set e (c .paths * 9) (lengthAt s at % 256)) (c .paths * 9 + 1) (pathAt s at) (lengthAt s at)
-  copied r end room short e′ copy =
-      let n-is : r - (at + 3) ≡ lengthAt s at = omega arith in
-      let end-is : at + 3 + (r - (at + 3)) ≡ endAt s at = omega arith in
-      let short-paths = all-map (λ (p : List ℕ) (h : IsPath (b .count) p). h .eight) (allPaths (b .sets)) (w .paths-proper) in
-      let size : length e ≡ 2304 =
-      ap length paths-held
-      ∙ length-padded 2304 (entries (allPaths (b .sets))) (omega (arith, length-entries (allPaths (b .sets)) short-paths, w .few-paths)) in
-      copy (simp length-set (omega arith))
-      ∙ ap₂ (λ m t. paste (set e (c .paths * 9) (m % 256)) (c .paths * 9 + 1) (slice (at + 3) t s) m) n-is end-is
+  copied r end whole e′ copy =
+      let n = lengthAt s at in
+      let n-is : r - (at + 3) ≡ n = omega arith in
+      let part : take n (drop (at + 3) s) ≡ take n (pathAt s at) =
+      sym (ap (take n) (slice-part (at + 3) n s whole) ∙ take-take n n (drop (at + 3) s) (omega arith)) in
+      copy
+      ∙ ap (λ m. paste (set e (c .paths * 9) (m % 256)) (c .paths * 9 + 1) (drop (at + 3) s) m) n-is
+      ∙ ap (λ l. take (c .paths * 9 + 1) (set e (c .paths * 9) (n % 256)) ++ l ++ drop (c .paths * 9 + 1 + n) (set e (c .paths * 9) (n % 256))) part
 
   -- what a path's field answers, with what the tables are then
   abbrev Answers : Answer → List ℕ → List ℕ → Type 0

@@ -4,6 +4,7 @@ use mathlib.Core.Path.{_≡_, refl, sym, ap, _∙_}
 use mathlib.Core.List.{List, [], _∷_, _++_, append-assoc, append-nil}
 use native.Mathlib.Omega.{arith}
 use lib.ListN.{length, length-append, length-replicate}
+use Rattle.limits.specs.Limits.{entrySize}
 use Rattle.book.specs.Book.{RuleSet, All, allPaths}
 use Rattle.book.specs.Tables.{padded, entry, entries, ownersFrom}
 
@@ -40,7 +41,7 @@ pub entries-snoc : (F : List (List ℕ)) (p : List ℕ) → entries (F ++ (p ∷
 unfolding entries
 entries-snoc F p = entries-append F (p ∷ []) ∙ ap (λ l. entries F ++ l) (append-nil (entry p))
 
-pub length-entries : (F : List (List ℕ)) → All Short F → length (entries F) ≡ length F * 9
+pub length-entries : (F : List (List ℕ)) → All Short F → length (entries F) ≡ length F * entrySize
 unfolding entries
 length-entries [] h = refl
 length-entries (p ∷ F) h = length-append (entry p) (entries F) ∙ omega (arith, length-entry p (h .0), length-entries F (h .1))

@@ -8,10 +8,10 @@ use Rattle.limits.specs.Limits.{mostVertices, mostSets, mostPaths, areaSize}
 use Rattle.book.specs.declared.Answer.{Answer}
 use Rattle.book.specs.declared.Answer.the-variants.{Read}
 use Rattle.book.specs.declared.Counts.{Counts}
-use Rattle.book.specs.Book.{Book, RuleSet, All, allPaths, counts}
+use Rattle.book.specs.Book.{Book, RuleSet, All, WellFormed, allPaths, counts}
 use Rattle.book.specs.BookLaws.{answer-read, reading-is-book, all-map}
 use Rattle.book.specs.Reading.{accepted, reading, readAs}
-use Rattle.book.specs.Tables.{Tables, IsGraph, IsSets, entries, ownersFrom, ownerTable}
+use Rattle.book.specs.Tables.{Tables, IsGraph, IsSets, entries, ownersFrom, ownerTable, pathTable}
 use Rattle.book.specs.EntryLaws.{Short, length-padded, length-entries}
 
 -- the book that was loaded
@@ -71,9 +71,18 @@ owners-below ss few i = rw (zeros-after (ownersFrom 0 ss)) (go ss few)
     go [] few = omega arith
     go (s ∷ ss) few = omega (arith, owner-below 0 (s ∷ ss) i (omega arith))
 
+-- the table of paths has its size
+paths-short : {b : Book} → WellFormed b → All Short (allPaths (b .sets))
+paths-short {b} w = all-map (λ q h. h .eight) (allPaths (b .sets)) (w .paths-proper)
+
+pub entries-length : {b : Book} {p : List ℕ} → WellFormed b → p ≡ pathTable (b .sets) → length p ≡ areaSize
+entries-length {b} w e =
+    ap length e
+    ∙ length-padded areaSize (entries (allPaths (b .sets))) (omega (arith, length-entries (allPaths (b .sets)) (paths-short w), w .few-paths))
+
 module _ {b : Book} {n : ℕ} {f o p : List ℕ} (s : IsSets b n f o p) where
   pub sets-short : All Short (allPaths (b .sets))
-  sets-short = all-map (λ q h. h .eight) (allPaths (b .sets)) (s .well .paths-proper)
+  sets-short = paths-short (s .well)
 
   pub sets-few : n ≤ mostPaths
   sets-few = omega (arith, s .counted, s .well .few-paths)
@@ -82,6 +91,4 @@ module _ {b : Book} {n : ℕ} {f o p : List ℕ} (s : IsSets b n f o p) where
   sets-owners i = rw (s .owners-are) (owners-below (b .sets) (s .well .few-sets) i)
 
   pub sets-entries : length p ≡ areaSize
-  sets-entries =
-      ap length (s .paths-are)
-      ∙ length-padded areaSize (entries (allPaths (b .sets))) (omega (arith, length-entries (allPaths (b .sets)) sets-short, s .well .few-paths))
+  sets-entries = entries-length (s .well) (s .paths-are)

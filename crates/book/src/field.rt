@@ -2,7 +2,7 @@
 ghost use mathlib.Core.Path.{_≡_};
 ghost use Prim.Native.Nat.{_+_, _≤_, _<_};
 ghost use lib.ListN.{length};
-ghost use lib.Seq.{slice, paste};
+ghost use lib.Seq.{slice};
 ghost use Rattle.limits.specs.Limits.{mostVertices, areaSize};
 ghost use Rattle.book.specs.Book.{Book, WellFormed, names, properArc, isPath};
 ghost use Rattle.book.specs.Book.{counts as Book·counts, simple as Book·simple};
@@ -22,6 +22,7 @@ use limits::MOST_SETS;
 use limits::MOST_VERTICES;
 use limits::NO_ARC;
 use limits::PAIRS;
+use lists::copy;
 use lists::wide;
 
 fn kind_of(tag: u8) -> Kind
@@ -231,18 +232,6 @@ pub fn is_path(bytes: &[u8], from: usize, to: usize, vertices: usize) -> bool
     simple(bytes, from, to, vertices)
 }
 
-fn copy(src: &[u8], from: usize, dst: &mut [u8; AREA], to: usize, n: usize)
-    requires { ⌜ from + n ≤ length (now src) ⌝ }
-    requires { ⌜ to + n ≤ areaSize ⌝ }
-    ensures { λ _. ⌜ (to + n ≤ length (now (dst .entry)) → now (dst .exit) ≡ paste (now (dst .entry)) to (slice from (from + n) (now (src .entry))) n) ⌝ }
-{
-    let mut i = 0;
-    while i < n {
-        dst[to + i] = src[from + i];
-        i += 1;
-    }
-}
-
 fn path(
     bytes: &[u8],
     at: usize,
@@ -253,6 +242,7 @@ fn path(
     requires { ⌜ endAt (now bytes) at ≤ length (now bytes) ⌝ }
     requires { ⌜ lengthAt (now bytes) at ≤ 8 ⌝ }
     requires { ⌜ 1 ≤ counts .sets ⌝ }
+    requires { ⌜ length (now entries) ≡ areaSize ⌝ }
     ensures { λ r. ⌜ ((b : Book) → counts ≡ Book·counts b → WellFormed b → now (owners .entry) ≡ ownerTable (b .sets) → now (entries .entry) ≡ pathTable (b .sets) → (r ≡ readAs (taken Path (now (bytes .entry)) b at)) × (now (owners .exit) ≡ ownerTable (kept b (taken Path (now (bytes .entry)) b at) .sets)) × (now (entries .exit) ≡ pathTable (kept b (taken Path (now (bytes .entry)) b at) .sets))) ⌝ }
 {
     let end = field_end(bytes, at);
@@ -288,6 +278,7 @@ pub fn field(
     requires { ⌜ at < length (now bytes) ⌝ }
     requires { ⌜ counts .vertices ≤ mostVertices ⌝ }
     requires { ⌜ counts .arcs ≤ at ⌝ }
+    requires { ⌜ length (now entries) ≡ areaSize ⌝ }
     ensures { λ r. ⌜ ((b : Book) → counts ≡ Book·counts b → WellFormed b → Tables b (now (weights .entry)) (now (flags .entry)) (now (owners .entry)) (now (entries .entry)) → (r ≡ readAs (Reading·field (now (bytes .entry)) b at)) × Tables (kept b (Reading·field (now (bytes .entry)) b at)) (now (weights .exit)) (now (flags .exit)) (now (owners .exit)) (now (entries .exit))) ⌝ }
 {
     let framed = frame(bytes, at, counts);

@@ -7,6 +7,7 @@ use cases::number;
 use cases::refusal;
 use cases::text;
 use limits::AREA;
+use limits::ENTRY;
 use limits::MOST_PATHS;
 use limits::MOST_SETS;
 use limits::NO_ARC;
@@ -55,10 +56,10 @@ fn write_path(entries: &[u8; AREA], j: usize)
     requires { ⌜ j < 256 ⌝ }
 {
     text(b"RUN");
-    let n = wide(entries[j * 9]);
+    let n = wide(entries[j * ENTRY]);
     for k in 0..8usize {
         if k < n {
-            number(wide(entries[j * 9 + 1 + k]));
+            number(wide(entries[j * ENTRY + 1 + k]));
         }
     }
     text(b"\n");

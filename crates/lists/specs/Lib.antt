@@ -1,3 +1,4 @@
 pub mod Distinct
 pub mod Test
 pub mod Pigeonhole
+pub mod Paste

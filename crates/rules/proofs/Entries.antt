@@ -11,7 +11,8 @@ use lib.Seq.{slice}
 use Rattle.lists.specs.Test.{any, all}
 use Rattle.book.specs.Book.{isPath}
 use Rattle.rules.specs.Area.{blocks, isEntry}
-use Rattle.rules.specs.AreaLaws.{slice-part, blocks-from, length-byte, path-part}
+use Rattle.rules.specs.AreaLaws.{blocks-from, length-byte, path-part}
+use Rattle.lists.specs.Paste.{slice-part}
 
 pub any-map : (f : List ℕ → Bool) (g : List ℕ → List ℕ) (l : List (List ℕ)) → any f (map g l) ≡ any (λ x. f (g x)) l
 any-map f g [] = refl

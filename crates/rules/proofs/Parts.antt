@@ -1,4 +1,4 @@
--- Parts of lists: compared, and copied, an element a turn.
+-- Parts of lists compared, an element a turn.
 use Prim.Native.Nat.{ℕ, _+_, _≤_, _<_}
 use mathlib.Core.Bool.{true, false}
 use mathlib.Core.List.{List}
@@ -6,8 +6,8 @@ use mathlib.Core.Path.{_≡_, sym, ap, ap₂, _∙_}
 use native.Mathlib.Numerals.{add-one}
 use native.Mathlib.Omega.{arith}
 use borrow.Author.Tests.{eq-eqb, ne-eqb}
-use lib.ListN.{length, getD, set, take, drop, length-drop, drop-of-length-le}
-use lib.Seq.{paste, paste-suc, length-paste, drop-cons, getD-drop}
+use lib.ListN.{length, getD, take, drop, drop-of-length-le}
+use lib.Seq.{drop-cons}
 use Rattle.walks.specs.Avoid.{same}
 use Rattle.rules.specs.Sets.{same-cons}
 use Rattle.rules.specs.AreaLaws.{part-length, part-at}
@@ -43,14 +43,3 @@ module _ (a b : List ℕ) (at from n : ℕ) (left : at + n ≤ length a) (right 
     pub parts-next : getD a (at + i) 0 ≡ getD b (from + i) 0
         → same (drop i (take n (drop at a))) (drop i (take n (drop from b))) ≡ same (drop (i + 1) (take n (drop at a))) (drop (i + 1) (take n (drop from b)))
     parts-next e = same-next (take n (drop at a)) (take n (drop from b)) i in-left in-right (part-at a at n i h ∙ e ∙ sym (part-at b from n i h))
-
--- ---- a part copied
-module _ (src dst : List ℕ) (from to n : ℕ) (held : from + n ≤ length src) (room : to + n ≤ length dst) where
-  pub paste-next : (i : ℕ) → i < n → set (paste dst to (drop from src) i) (to + i) (getD src (from + i) 0) ≡ paste dst to (drop from src) (i + 1)
-  paste-next i h =
-      ap (set (paste dst to (drop from src) i) (to + i)) (sym (getD-drop from src i 0))
-      ∙ paste-suc dst to (drop from src) i 0 (omega arith) (omega (arith, length-drop from src))
-      ∙ ap (paste dst to (drop from src)) (sym (add-one i))
-
-  pub paste-kept : (i : ℕ) → i ≤ n → length (paste dst to (drop from src) i) ≡ length dst
-  paste-kept i h = length-paste dst to (drop from src) i (omega arith) (omega (arith, length-drop from src))

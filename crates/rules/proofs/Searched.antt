@@ -15,7 +15,8 @@ use Rattle.walks.specs.Avoid.{same}
 use Rattle.book.specs.Book.{All}
 use Rattle.rules.specs.declared.Checked.the-variants.{Clear, Occurs}
 use Rattle.rules.specs.Area.{blocks, pathOf, spelled}
-use Rattle.rules.specs.AreaLaws.{slice-part, length-byte, path-part, path-size}
+use Rattle.rules.specs.AreaLaws.{length-byte, path-part, path-size}
+use Rattle.lists.specs.Paste.{slice-part}
 use Rattle.rules.specs.Checking.{endsAt, someEnds, firstFrom, namedAt, answerAt, checkFrom}
 use Rattle.rules.specs.CheckLaws.{first-none}
 use Rattle.rules.proofs.Entries.{any-map, blocks-start, any-past, any-here, any-later}

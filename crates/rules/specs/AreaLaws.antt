@@ -7,6 +7,7 @@ use native.Mathlib.Nat.{add-zero, zero-add}
 use native.Mathlib.Omega.{arith}
 use lib.ListN.{length, getD, take, drop, replicate, length-append, length-replicate, length-drop, replicate-append-replicate}
 use lib.Seq.{paste, slice, take-at, drop-at, take-append-seam, drop-append-add, drop-drop, take-add, take-take, getD-take, getD-drop, length-take-le}
+use Rattle.limits.specs.Limits.{entrySize}
 use Rattle.book.specs.Book.{All}
 use Rattle.book.specs.Tables.{padded, entry, entries}
 use Rattle.book.specs.EntryLaws.{Short, length-entry}
@@ -21,9 +22,6 @@ module _ (l : List ℕ) (at n : ℕ) where
 
   pub part-at : (i : ℕ) → i < n → getD (take n (drop at l)) i 0 ≡ getD l (at + i) 0
   part-at i h = getD-take n (drop at l) i 0 h ∙ getD-drop at l i 0
-
-pub slice-part : (f n : ℕ) (l : List ℕ) → f + n ≤ length l → slice f (f + n) l ≡ take n (drop f l)
-slice-part f n l h = ap (drop f) (take-add f n l) ∙ drop-at (take f l) (take n (drop f l)) f (length-take-le f l (omega arith))
 
 -- ---- zeros
 abbrev zeros : ℕ → List ℕ
@@ -52,14 +50,14 @@ pub path-of-entry : (p : List ℕ) → pathOf (entry p) ≡ p
 path-of-entry p = take-append-seam p _
 
 -- the entry at an index
-pub entry-at : (F : List (List ℕ)) (rest : List ℕ) (k : ℕ) → All Short F → k < length F → take 9 (drop (k * 9) (entries F ++ rest)) ≡ entry (getD F k [])
+pub entry-at : (F : List (List ℕ)) (rest : List ℕ) (k : ℕ) → All Short F → k < length F → take entrySize (drop (k * entrySize) (entries F ++ rest)) ≡ entry (getD F k [])
 unfolding entries
 entry-at [] rest k h l = absurd (omega arith)
-entry-at (p ∷ F) rest zero h l = ap (take 9) (append-assoc (entry p) (entries F) rest) ∙ take-at (entry p) _ 9 (length-entry p (h .0))
+entry-at (p ∷ F) rest zero h l = ap (take entrySize) (append-assoc (entry p) (entries F) rest) ∙ take-at (entry p) _ 9 (length-entry p (h .0))
 entry-at (p ∷ F) rest (suc k) h l =
-    let further : suc k * 9 ≡ length (entry p) + k * 9 = omega (arith, length-entry p (h .0)) in
-    ap₂ (λ n t. take 9 (drop n t)) further (append-assoc (entry p) (entries F) rest)
-    ∙ ap (take 9) (drop-append-add (entry p) (entries F ++ rest) (k * 9))
+    let further : suc k * entrySize ≡ length (entry p) + k * entrySize = omega (arith, length-entry p (h .0)) in
+    ap₂ (λ n t. take entrySize (drop n t)) further (append-assoc (entry p) (entries F) rest)
+    ∙ ap (take entrySize) (drop-append-add (entry p) (entries F ++ rest) (k * entrySize))
     ∙ entry-at F rest k (h .1) (omega arith)
 
 -- two entries are equal exactly if their paths are
@@ -70,50 +68,50 @@ member-entry p (q ∷ F) =
 
 -- ---- the entry at a byte, and the path that it spells
 module _ (area : List ℕ) (at : ℕ) where
-  pub length-byte : getD (take 9 (drop at area)) 0 0 ≡ getD area at 0
+  pub length-byte : getD (take entrySize (drop at area)) 0 0 ≡ getD area at 0
   length-byte = part-at area at 9 0 (omega arith) ∙ ap (λ i. getD area i 0) (add-zero at)
 
-  vertices-of : (l : List ℕ) → drop 1 (take 9 l) ≡ take 8 (drop 1 l)
+  vertices-of : (l : List ℕ) → drop 1 (take entrySize l) ≡ take 8 (drop 1 l)
   vertices-of [] = refl
   vertices-of (x ∷ l) = refl
 
-  pub path-part : (n : ℕ) → getD area at 0 ≡ n → n ≤ 8 → pathOf (take 9 (drop at area)) ≡ take n (drop (at + 1) area)
+  pub path-part : (n : ℕ) → getD area at 0 ≡ n → n ≤ 8 → pathOf (take entrySize (drop at area)) ≡ take n (drop (at + 1) area)
   path-part n e short =
       ap₂ take (length-byte ∙ e) (vertices-of (drop at area))
       ∙ take-take n 8 (drop 1 (drop at area)) short
       ∙ ap (take n) (drop-drop 1 at area)
 
-  pub path-size : at + 9 ≤ length area → getD area at 0 ≤ 8 → length (pathOf (take 9 (drop at area))) ≡ getD area at 0
+  pub path-size : at + entrySize ≤ length area → getD area at 0 ≤ 8 → length (pathOf (take entrySize (drop at area))) ≡ getD area at 0
   path-size within short = ap length (path-part (getD area at 0) refl short) ∙ part-length area (at + 1) (getD area at 0) (omega arith)
 
 -- ---- the entries of an area
 pub length-blocks : (n : ℕ) (t : List ℕ) → length (blocks n t) ≡ n
 unfolding blocks
 length-blocks zero t = refl
-length-blocks (suc n) t = ap suc (length-blocks n (drop 9 t))
+length-blocks (suc n) t = ap suc (length-blocks n (drop entrySize t))
 
-pub blocks-append : (n m : ℕ) (t : List ℕ) → blocks (n + m) t ≡ blocks n t ++ blocks m (drop (n * 9) t)
+pub blocks-append : (n m : ℕ) (t : List ℕ) → blocks (n + m) t ≡ blocks n t ++ blocks m (drop (n * entrySize) t)
 unfolding blocks
 blocks-append zero m t = ap (λ k. blocks k t) (zero-add m)
 blocks-append (suc n) m t =
     let turn : suc n + m ≡ suc (n + m) = omega arith in
-    let further : 9 + n * 9 ≡ suc n * 9 = omega arith in
+    let further : 9 + n * entrySize ≡ suc n * entrySize = omega arith in
     ap (λ k. blocks k t) turn
-    ∙ ap (λ l. take 9 t ∷ l) (blocks-append n m (drop 9 t) ∙ ap (λ s. blocks n (drop 9 t) ++ blocks m s) (drop-drop (n * 9) 9 t ∙ ap (λ k. drop k t) further))
+    ∙ ap (λ l. take entrySize t ∷ l) (blocks-append n m (drop entrySize t) ∙ ap (λ s. blocks n (drop entrySize t) ++ blocks m s) (drop-drop (n * entrySize) 9 t ∙ ap (λ k. drop k t) further))
 
 -- the entry at k is the first of those from k on, and the last of those up to it
-pub blocks-from : (n k : ℕ) (t : List ℕ) → k < n → blocks (n - k) (drop (k * 9) t) ≡ take 9 (drop (k * 9) t) ∷ blocks (n - (k + 1)) (drop ((k + 1) * 9) t)
+pub blocks-from : (n k : ℕ) (t : List ℕ) → k < n → blocks (n - k) (drop (k * entrySize) t) ≡ take entrySize (drop (k * entrySize) t) ∷ blocks (n - (k + 1)) (drop ((k + 1) * entrySize) t)
 unfolding blocks
 blocks-from n k t h =
     let turn : n - k ≡ suc (n - (k + 1)) = omega arith in
-    let further : k * 9 + 9 ≡ (k + 1) * 9 = omega arith in
-    ap (λ m. blocks m (drop (k * 9) t)) turn ∙ ap (λ s. take 9 (drop (k * 9) t) ∷ blocks (n - (k + 1)) s) (drop-drop 9 (k * 9) t ∙ ap (λ m. drop m t) further)
+    let further : k * entrySize + 9 ≡ (k + 1) * entrySize = omega arith in
+    ap (λ m. blocks m (drop (k * entrySize) t)) turn ∙ ap (λ s. take entrySize (drop (k * entrySize) t) ∷ blocks (n - (k + 1)) s) (drop-drop entrySize (k * entrySize) t ∙ ap (λ m. drop m t) further)
 
-pub blocks-up-to : (k : ℕ) (t : List ℕ) → blocks (k + 1) t ≡ blocks k t ++ (take 9 (drop (k * 9) t) ∷ [])
+pub blocks-up-to : (k : ℕ) (t : List ℕ) → blocks (k + 1) t ≡ blocks k t ++ (take entrySize (drop (k * entrySize) t) ∷ [])
 unfolding blocks
 blocks-up-to k t = blocks-append k 1 t
 
-pub spelled-up-to : (k : ℕ) (t : List ℕ) → spelled (k + 1) t ≡ spelled k t ++ (pathOf (take 9 (drop (k * 9) t)) ∷ [])
+pub spelled-up-to : (k : ℕ) (t : List ℕ) → spelled (k + 1) t ≡ spelled k t ++ (pathOf (take entrySize (drop (k * entrySize) t)) ∷ [])
 spelled-up-to k t = ap (map pathOf) (blocks-up-to k t) ∙ map-append pathOf (blocks k t) _
 
 -- an area that holds the paths of F has them as its entries
@@ -122,7 +120,7 @@ unfolding blocks entries
 blocks-entries [] rest h = refl
 blocks-entries (p ∷ F) rest h =
     let nine = length-entry p (h .0) in
-    ap (λ t. take 9 t ∷ blocks (length F) (drop 9 t)) (append-assoc (entry p) (entries F) rest)
+    ap (λ t. take entrySize t ∷ blocks (length F) (drop entrySize t)) (append-assoc (entry p) (entries F) rest)
     ∙ ap₂ (λ e t. e ∷ blocks (length F) t) (take-at (entry p) _ 9 nine) (drop-at (entry p) (entries F ++ rest) 9 nine)
     ∙ ap (λ l. entry p ∷ l) (blocks-entries F rest (h .1))
 

@@ -14,7 +14,7 @@ use lib.Seq.{slice, take-at, drop-at}
 use Rattle.lists.specs.Test.{T→true, true→T, any→some, some→any, and-true}
 use Rattle.walks.specs.Avoid.{Occurs, Avoids, same}
 use Rattle.rules.specs.declared.Checked.the-variants.{Clear, Occurs as Occurs-at}
-use Rattle.rules.specs.AreaLaws.{slice-part}
+use Rattle.lists.specs.Paste.{slice-part}
 use Rattle.rules.specs.Checking.{endsAt, someEnds, firstFrom, namedAt, answerAt, checkFrom, occurrence}
 use Rattle.rules.specs.Sets.{same-true, true-same, refuted}
 

@@ -2,7 +2,6 @@
 ghost use mathlib.Core.Path.{_≡_};
 ghost use Prim.Native.Nat.{_+_, _*_, _≤_, _<_};
 ghost use lib.ListN.{length, take, drop};
-ghost use lib.Seq.{paste};
 ghost use Rattle.walks.specs.Avoid.{same};
 ghost use Rattle.rules.specs.Binding.{member};
 ghost use Rattle.rules.specs.Area.{blocks};
@@ -12,19 +11,8 @@ use book::is_path;
 use limits::AREA;
 use limits::ENTRY;
 use limits::MOST_PATHS;
+use lists::copy;
 use lists::wide;
-
-pub fn copy(src: &[u8], from: usize, dst: &mut [u8], to: usize, n: usize)
-    requires { ⌜ from + n ≤ length (now src) ⌝ }
-    requires { ⌜ to + n ≤ length (now dst) ⌝ }
-    ensures { λ _. ⌜ now (dst .exit) ≡ paste (now (dst .entry)) to (drop from (now (src .entry))) n ⌝ }
-{
-    let mut i = 0;
-    while i < n {
-        dst[to + i] = src[from + i];
-        i += 1;
-    }
-}
 
 // Whether n bytes of a from `at` on are those of b from `from` on.
 fn same_bytes(a: &[u8], at: usize, b: &[u8], from: usize, n: usize) -> bool

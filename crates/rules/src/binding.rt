@@ -6,11 +6,11 @@ ghost use Rattle.book.specs.Tables.{IsSets};
 ghost use Rattle.rules.specs.Binding.{covers, known};
 ghost use Rattle.rules.specs.Area.{written};
 ghost use Rattle.limits.specs.Limits.{areaSize};
-use crate::area::copy;
 use crate::area::found;
 use limits::ENTRY;
 use limits::MOST_PATHS;
 use limits::MOST_SETS;
+use lists::copy;
 use lists::wide;
 
 // Whether each of the needed flags is held.

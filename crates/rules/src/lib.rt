@@ -6,7 +6,6 @@ mod area;
 mod binding;
 mod walk;
 
-pub use area::copy;
 pub use area::valid;
 pub use binding::gather;
 use book::Answer;
@@ -16,6 +15,7 @@ use limits::MOST_PATHS;
 use limits::MOST_SETS;
 use limits::NO_ARC;
 use limits::PAIRS;
+use lists::copy;
 pub use walk::first_occurrence;
 pub use walk::is_walk;
 

@@ -82,6 +82,6 @@ fn begin_in(
     let mut known = [0u8; AREA];
     let count = rules::gather(needed, owners, entries, listed, flags, &mut known);
     let found = planner::find(weights, vertices, &known, count, start, end, walk);
-    rules::copy(&known, 0, paths, 0, AREA);
+    lists::copy(&known, 0, paths, 0, AREA);
     Begun::Record(Record::new(start, end, count).replanned(found))
 }

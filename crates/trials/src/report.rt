@@ -141,5 +141,5 @@ fn enter(path: &[u8], known: usize, paths: &mut [u8])
     let at = known * ENTRY;
     let n = path.len();
     paths[at] = n as u8;
-    rules::copy(path, 0, paths, at + 1, n);
+    lists::copy(path, 0, paths, at + 1, n);
 }

@@ -8,6 +8,7 @@ use lib.ListN.{length}
 use Rattle.book.specs.declared.Answer.the-variants.{Read}
 use Rattle.book.specs.declared.Counts.{Counts}
 use Rattle.book.specs.Reading.{readAs, reading}
+use Rattle.book.specs.Loaded.{entries-length}
 use Rattle.book.specs.Tables.{Tables}
 use Rattle.book.proofs.Loop.{Reached, nothing, started, finished, stopped, within, onward, not-both, same-book}
 use Rattle.book.proofs.load.Statement.{statement}
@@ -48,7 +49,7 @@ field-requires c κs =
     let vertices = ap (λ (d : Counts). d .vertices) (r .so-far) in
     let arcs = ap (λ (d : Counts). d .arcs) (r .so-far) in (
       c .before .before .before .before .loop-test .taken,
-      (omega (arith, vertices, r .well .few-vertices), omega (arith, arcs, r .few-arcs)),
+      (omega (arith, vertices, r .well .few-vertices), (omega (arith, arcs, r .few-arcs), entries-length (r .well) (r .tables .paths-are))),
     )
 
 returns-2 : tie.Need-returns-2 Inv-loop μ-loop

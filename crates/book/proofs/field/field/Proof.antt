@@ -92,7 +92,7 @@ arc-requires c κs =
     let start = here .before .before .before .before .before .before in
     let a = start .args in
     let frame = whole here Arc (c .before .enum-told4 .given .1) in
-    (omega (arith, frame .whole, eqb-true (lengthAt (now (a .bytes)) (a .at)) 6 (frame .fit)), (start .pre .1 .0, start .pre .1 .1))
+    (omega (arith, frame .whole, eqb-true (lengthAt (now (a .bytes)) (a .at)) 6 (frame .fit)), (start .pre .1 .0, start .pre .1 .1 .0))
 
 rule-set-requires : tie.Need-rule-set-requires
 rule-set-requires c κs =
@@ -107,7 +107,7 @@ path-requires c κs =
     let a = here .before .before .before .before .before .before .args in
     let frame = whole here Path (c .before .before .enum-told6 .given .1) in
     let n = lengthAt (now (a .bytes)) (a .at) in
-    (frame .whole, (leb-true n 8 (and-true (leb 2 n) (leb n 8) (frame .fit) .1), not-zero (a .counts .sets) (frame .order)))
+    (frame .whole, (leb-true n 8 (and-true (leb 2 n) (leb n 8) (frame .fit) .1), (not-zero (a .counts .sets) (frame .order), here .before .before .before .before .before .before .pre .1 .1 .1)))
 
 returns-2 : tie.Need-returns-2
 returns-2 c b so-far w held =

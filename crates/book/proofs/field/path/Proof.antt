@@ -83,11 +83,11 @@ returns-3 c b so-far w owners-held paths-held =
     let added =
     path-added (a .counts) (now (a .bytes)) b (a .at) so-far w (now (a .owners)) (now (a .entries)) owners-held paths-held
     (tested (here .before) _ (not-false (here .before .simple .result) (here .if1 .left)))
-    room (pre .1 .1) (pre .0) (pre .1 .0) in (
+    room (pre .1 .1 .0) (pre .0) (pre .1 .0) in (
       added .0,
       added .1,
       copied (a .counts) (now (a .bytes)) b (a .at) so-far w (now (a .owners)) (now (a .entries)) owners-held paths-held
-          (here .before .before .field-end .result) (here .before .before .field-end .ensures) room (pre .1 .0) _ (c .copy .ensures)
+          (here .before .before .field-end .result) (here .before .before .field-end .ensures) (pre .0) _ (c .copy .ensures)
           ∙ added .2,
     )
 

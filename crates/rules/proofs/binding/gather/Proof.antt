@@ -11,7 +11,7 @@ use Rattle.book.specs.Loaded.{sets-few, sets-owners, sets-entries}
 use Rattle.book.specs.Tables.{IsSets}
 use Rattle.rules.specs.Binding.{covers}
 use Rattle.limits.specs.Limits.{mostPaths, mostSets, areaSize}
-use Rattle.rules.proofs.Parts.{paste-kept}
+use Rattle.lists.specs.Paste.{paste-kept}
 use Rattle.rules.proofs.Gathered.{Gathered, started, finished, passed-over, known-already, added}
 use borrow.Author.Needs.{needs}
 use Rattle.rules.proofs.binding.gather.Statement.{statement}

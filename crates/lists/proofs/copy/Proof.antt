@@ -1,14 +1,14 @@
--- `area::copy` meets its contract: after i turns the first i bytes are copied.
+-- `copy` meets its contract: after i turns the first i bytes are copied.
 use Prim.Native.Nat.{_+_, _-_, _≤_}
 use mathlib.Core.Path.{_≡_, ap, _∙_}
 use native.Mathlib.Omega.{arith}
 use denote.Ref.{now}
 use lib.ListN.{length, getD, set, drop}
 use lib.Seq.{paste, paste-zero}
-use Rattle.rules.proofs.Parts.{paste-next, paste-kept}
+use Rattle.lists.specs.Paste.{paste-next, paste-kept}
 use borrow.Author.Needs.{needs}
-use Rattle.rules.proofs.area.copy.Statement.{statement}
-use Rattle.rules.proofs.area.copy.Tie as tie
+use Rattle.lists.proofs.copy.Statement.{statement}
+use Rattle.lists.proofs.copy.Tie as tie
 
 abbrev Inv-loop : tie.InvT-loop
 Inv-loop src from dst₀ to n i₀ dst i = (i ≤ n) × (dst ≡ paste dst₀ to (drop from src) i)
