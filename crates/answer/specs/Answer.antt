@@ -14,7 +14,7 @@ use Rattle.book.specs.Refusal.{Test, test, numbered}
 use Rattle.book.specs.Book.{Book, graph}
 use Rattle.book.specs.Reading.{Reading, reading, refusalOf, bookIn, u16At}
 use Rattle.rules.specs.Binding.{known}
-use Rattle.answer.specs.Text.{walkText, noneText, refusalText}
+use Rattle.text.specs.Text.{walkText, noneText, refusalText}
 
 -- The best walk of g from s to t that avoids F, or that there is none.
 abbrev pub AnsweredUnder : Graph → List (List ℕ) → ℕ → ℕ → List ℕ → Type 0

@@ -20,8 +20,8 @@ use Rattle.rules.specs.Binding.{known}
 use Rattle.routes.specs.declared.Found.{Found}
 use Rattle.routes.specs.declared.Found.the-variants.{Walk, Nothing}
 use Rattle.routes.specs.Plan.{PlannedWalk, Searched}
-use Rattle.answer.specs.Text.{planText, walkText, refusalText, foundText}
-use Rattle.answer.specs.Writing.{Standing}
+use Rattle.text.specs.Text.{planText, walkText, refusalText, foundText}
+use Rattle.text.specs.Writing.{Standing}
 use Rattle.answer.specs.Answer.{AnsweredUnder, AnsweredAs, answerTests, AnsweredOf, AnsweredBy, Answered, Printed}
 
 -- ---- one text

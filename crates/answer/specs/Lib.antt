@@ -1,5 +1,2 @@
-pub mod Text
-pub mod Writing
 pub mod Answer
-pub mod TextLaws
 pub mod AnswerLaws

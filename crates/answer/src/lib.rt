@@ -7,11 +7,8 @@ ghost use Rattle.book.specs.Book.{Book};
 ghost use Rattle.book.specs.Reading.{accepted, reading};
 ghost use Rattle.book.specs.Tables.{IsGraph, IsSets};
 ghost use Rattle.answer.specs.Answer.{Printed, AnsweredOf};
-ghost use Rattle.answer.specs.Text.{foundText, longestText};
-ghost use Rattle.answer.specs.Writing.{Wrote, WroteSome, Standing};
-
-mod text;
-
+ghost use Rattle.text.specs.Text.{longestText};
+ghost use Rattle.text.specs.Writing.{Wrote, WroteSome, Standing};
 use book::Answer;
 use book::Refusal;
 use limits::AREA;
@@ -21,17 +18,12 @@ use limits::MOST_SETS;
 use limits::NO_ARC;
 use limits::PAIRS;
 use lists::u16_from;
-use routes::Found;
-use text::plan_text;
+use text::found_text;
 use text::refusal_text;
-use text::word;
-
-// How many bytes the text has at most.
-pub const LONGEST_TEXT: usize = 8192;
 
 // Writes the text for an input (marks in two bytes, start, end, and a book) into the front of `out`, and answers how many
 // bytes it has.
-pub fn answer(input: &[u8], out: &mut [u8; LONGEST_TEXT]) -> usize
+pub fn answer(input: &[u8], out: &mut [u8; text::LONGEST_TEXT]) -> usize
     ensures { λ r. ⌜ Printed (now (input .entry)) (now (out .entry)) r (now (out .exit)) ⌝ }
 {
     answer_in(input, out)
@@ -104,16 +96,4 @@ fn answer_loaded(
     let mut walk = [0u8; LONGEST];
     let found = planner::find(weights, vertices, &paths, count, start, end, &mut walk);
     found_text(found, &walk, out)
-}
-
-fn found_text(found: Found, walk: &[u8], out: &mut [u8]) -> usize
-    requires { ⌜ Standing found (length (now walk)) ⌝ }
-    requires { ⌜ length (now walk) ≤ longest ⌝ }
-    requires { ⌜ longestText ≤ length (now out) ⌝ }
-    ensures { λ r. ⌜ Wrote (foundText found (now (walk .entry))) 0 (now (out .entry)) r (now (out .exit)) ⌝ }
-{
-    match found {
-        Found::Walk { weight, hops } => plan_text(weight, hops, &walk[..hops + 1], out),
-        Found::Nothing => word(b"NONE\n", out, 0),
-    }
 }

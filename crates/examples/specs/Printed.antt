@@ -6,7 +6,7 @@ use mathlib.Core.Logic.{inl, inr}
 use Rattle.examples.specs.Walks.{marks-3, back}
 use Rattle.examples.specs.Books.{bytesA, book-A, count-65}
 use Rattle.rules.specs.Binding.{covers, applied}
-use Rattle.answer.specs.Text.{digits, followed}
+use Rattle.text.specs.Text.{digits, followed}
 use Rattle.answer.specs.Answer.{AnsweredOf, Answered}
 use Rattle.answer.specs.AnswerLaws.{Answered-unique}
 

@@ -2,7 +2,7 @@
 use cases::text;
 
 pub fn plan_case(input: &[u8]) {
-    let mut out = [0u8; answer::LONGEST_TEXT];
+    let mut out = [0u8; text::LONGEST_TEXT];
     let size = answer::answer(input, &mut out);
     text(&out[..size]);
 }

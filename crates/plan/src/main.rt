@@ -5,7 +5,7 @@ use libc::STDOUT_FILENO;
 fn main() {
     let mut input = io::large_buffer();
     let n = io::read_full(STDIN_FILENO, &mut input);
-    let mut out = [0u8; answer::LONGEST_TEXT];
+    let mut out = [0u8; text::LONGEST_TEXT];
     let size = answer::answer(&input[..n], &mut out);
     io::write_all(STDOUT_FILENO, &out[..size]);
 }

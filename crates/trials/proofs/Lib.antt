@@ -1,7 +1,2 @@
 pub mod Beginning
-pub mod Occurring
-pub mod Weighing
-pub mod Standing
-pub mod Recorded
-pub mod Judged
 pub mod Reporting

@@ -29,12 +29,12 @@ use Rattle.routes.specs.declared.Found.{Found}
 use Rattle.routes.specs.Plan.{Searched}
 use Rattle.trial_record.specs.declared.Record.{Record}
 use Rattle.trials.specs.declared.Reported.{Reported}
-use Rattle.trials.specs.declared.judge.Judged.the-variants.{Standing, Refused}
+use Rattle.judging.specs.declared.Judged.the-variants.{Standing, Refused}
 use Rattle.trial_rules.specs.Trials.{Report, passed, failed, State, ForbiddenSet, passedIn, stageOf, litresOf, lengthOf, step}
 use Rattle.trial_record.specs.Steps.{passedOf, failedOf, replanned, Short}
-use Rattle.trials.specs.Operations.{leaves, stateOf, judgeTests, saidTests, reportTests, reportedAs, reportingOf}
+use Rattle.trials.specs.Operations.{leaves, reportedAs, reportingOf}
+use Rattle.judging.specs.Judging.{stateOf, judgeTests, saidTests, reportTests, judgedAs}
 use Rattle.trials.specs.OperationLaws.{Passed, passed-tests}
-use Rattle.trials.specs.Judging.{judgedAs}
 use Rattle.trial_rules.specs.Tests.{set-paths, set-once}
 use Rattle.trial_rules.specs.Invariant.{one-more}
 use Rattle.trials.specs.Replanning.{Held, held, chosen-planner}

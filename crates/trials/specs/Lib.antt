@@ -1,4 +1,3 @@
 pub mod Operations
 pub mod Replanning
-pub mod Judging
 pub mod OperationLaws

@@ -22,7 +22,8 @@ use Rattle.rules.specs.ValidLaws.{valid→Valid, written-length, written-valid,
 use Rattle.automaton.specs.Chosen.{chosen}
 use Rattle.trial_record.specs.declared.Record.{Record}
 use Rattle.trial_rules.specs.Trials.{Report, State, pathArea, areaTests, isNamed, hasRoom, ForbiddenSet, isForbiddenSet, isRecord, isValid, Valid, refusal, step}
-use Rattle.trials.specs.Operations.{stateOf, reportTests, reportedAs, reportingOf}
+use Rattle.trials.specs.Operations.{reportedAs, reportingOf}
+use Rattle.judging.specs.Judging.{stateOf, reportTests}
 use Rattle.trial_rules.specs.Tests.{forbidden-set, once→Distinct, set-paths, set-once, →isForbiddenSet, Valid→isValid, isValid→Valid}
 use Rattle.trial_rules.specs.Accepted.{Accepts}
 

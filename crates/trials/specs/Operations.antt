@@ -1,21 +1,17 @@
 -- What the operations answer, and what they leave in both areas.
 use Prim.Native.Nat.{ℕ}
-use mathlib.Core.List.{List, [], _∷_, _++_}
+use mathlib.Core.List.{List}
 use mathlib.Core.Option.{Option, none, some}
-use lib.Dec.{eqb}
-use lib.ListN.{drop}
 use Rattle.book.specs.declared.Refusal.{Refusal}
-use Rattle.book.specs.Refusal.{Test, test}
 use Rattle.book.specs.Book.{Book, graph}
 use Rattle.book.specs.Reading.{Reading, reading, refusalOf, bookIn}
 use Rattle.rules.specs.Binding.{known}
-use Rattle.rules.specs.Area.{spelled, valid}
-use Rattle.limits.specs.Limits.{areaSize}
+use Rattle.judging.specs.Judging.{stateOf, reportTests}
 use Rattle.trial_record.specs.declared.Record.{Record}
 use Rattle.trials.specs.declared.Begun.{Begun}
 use Rattle.trials.specs.declared.Reported.{Reported}
 use Rattle.automaton.specs.Chosen.{chosen}
-use Rattle.trial_rules.specs.Trials.{Report, State, pathArea, areaTests, beginTests, isRecord, isNamed, hasRoom, begin, step}
+use Rattle.trial_rules.specs.Trials.{Report, State, pathArea, beginTests, begin, step}
 
 -- An operation's answer, and every byte of the runs area and of the line-up area after it.
 pub record Leaves (A : Type 0) : Type 0 where
@@ -25,10 +21,6 @@ pub record Leaves (A : Type 0) : Type 0 where
 
 abbrev pub leaves : {A : Type 0} → A → List ℕ → List ℕ → Leaves A
 leaves a paths walk = record { answer = a; paths = paths; walk = walk }
-
--- The state that a record and the two areas stand for.
-abbrev pub stateOf : Record → List ℕ → List ℕ → State
-stateOf r paths walk = record { rec = r; forbidden = spelled (r .known) paths; beyond = drop areaSize paths; area = walk }
 
 -- ---- begin
 -- A refusal writes nothing.
@@ -48,18 +40,6 @@ abbrev pub beginning : List ℕ → ℕ → ℕ → ℕ → List ℕ → List �
 beginning s flags start end paths walk = beginningOf (reading s) flags start end paths walk
 
 -- ---- a report
--- What every report is refused for: 8, 9 and 11; and then what it is refused for by what it says: 12, 13.
-abbrev pub judgeTests : Record → List ℕ → List ℕ → Book → List Test
-judgeTests r paths walk b =
-    areaTests paths walk
-    ++ (test 9 (valid (b .count) paths (r .known)) ∷ test 9 (isRecord (graph b) (stateOf r paths walk)) ∷ test 11 (eqb (r .stage) 0) ∷ [])
-
-abbrev pub saidTests : Record → List ℕ → List ℕ → Report → Book → List Test
-saidTests r paths walk ρ b = test 12 (isNamed (graph b) (stateOf r paths walk) ρ) ∷ test 13 (hasRoom (stateOf r paths walk) ρ) ∷ []
-
-abbrev pub reportTests : Record → List ℕ → List ℕ → Report → Book → List Test
-reportTests r paths walk ρ b = judgeTests r paths walk b ++ saidTests r paths walk ρ b
-
 -- A refusal writes nothing, and hands the record back as it came.
 abbrev pub reportedAs : Option Refusal → State → Record → List ℕ → List ℕ → Leaves Reported
 reportedAs none σ r paths walk = leaves (Reported.Accepted (σ .rec)) (pathArea σ) (σ .area)

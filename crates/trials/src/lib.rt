@@ -1,5 +1,4 @@
 // The trials of a batch (01, 'Trials'): begin, and what the oracle (01: the lab) reports.
-mod judge;
 mod opening;
 mod report;
 

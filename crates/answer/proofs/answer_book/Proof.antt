@@ -5,9 +5,9 @@ use mathlib.Core.Path.{refl, sym, subst, _∙_}
 use Rattle.book.specs.BookLaws.{answer-refused}
 use Rattle.book.specs.Loaded.{Loaded, loaded, sets-entries}
 use Rattle.book.specs.Reading.{reading}
-use Rattle.answer.specs.Text.{refusalText}
+use Rattle.text.specs.Text.{refusalText}
 use Rattle.answer.specs.Answer.{AnsweredOf}
-use Rattle.answer.specs.Writing.{WroteSome}
+use Rattle.text.specs.Writing.{WroteSome}
 use Rattle.answer.proofs.answer_book.Statement.{statement}
 use Rattle.answer.proofs.answer_book.Tie as tie
 

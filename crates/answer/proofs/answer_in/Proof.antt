@@ -7,10 +7,10 @@ use mathlib.Core.Path.{refl, sym, subst}
 use lib.ListN.{length, getD, drop}
 use Rattle.book.specs.declared.Refusal.the-variants.{Truncated}
 use Rattle.book.specs.Reading.{reading}
-use Rattle.answer.specs.Text.{refusalText}
-use Rattle.answer.specs.Writing.{wrote-front}
+use Rattle.text.specs.Text.{refusalText}
+use Rattle.text.specs.Writing.{wrote-front}
 use Rattle.answer.specs.Answer.{AnsweredOf, AnsweredBy}
-use Rattle.answer.proofs.Parts.{part-rest}
+use Rattle.text.proofs.Parts.{part-rest}
 use Rattle.answer.proofs.answer_in.Statement.{statement}
 use Rattle.answer.proofs.answer_in.Tie as tie
 

@@ -16,7 +16,7 @@ use Rattle.rules.specs.Area.{written, valid}
 use Rattle.rules.specs.Binding.{known}
 use Rattle.rules.specs.Laws.{gathered-valid, gathered-spells}
 use Rattle.routes.specs.Plan.{Searched}
-use Rattle.answer.specs.Text.{refusalText, foundText}
+use Rattle.text.specs.Text.{refusalText, foundText}
 use Rattle.answer.specs.AnswerLaws.{found-text, found-standing, answer-fails, answer-found}
 use Rattle.answer.proofs.answer_loaded.Statement.{statement}
 use Rattle.answer.proofs.answer_loaded.Tie as tie

@@ -12,11 +12,10 @@ use Rattle.limits.specs.Limits.{mostPaths}
 use Rattle.book.specs.Book.{Book, isPath, graph}
 use Rattle.book.specs.Refusal.{refusalBy}
 use Rattle.book.specs.RefusalLaws.{here, later}
-use Rattle.trials.specs.declared.judge.Judged.the-variants.{Standing}
+use Rattle.judging.specs.declared.Judged.the-variants.{Standing}
 use Rattle.trial_rules.specs.Trials.{failed, isNamed}
-use Rattle.trials.specs.Operations.{stateOf, judgeTests, reportTests}
+use Rattle.judging.specs.Judging.{stateOf, judgeTests, reportTests, judgedAs}
 use Rattle.book.specs.Tables.{IsGraph}
-use Rattle.trials.specs.Judging.{judgedAs}
 use Rattle.trials.proofs.Reporting.{refused, walk-fits, said-fails, ready}
 use Rattle.trials.proofs.report.accept_failed.Statement.{statement}
 use Rattle.trials.proofs.report.accept_failed.Tie as tie

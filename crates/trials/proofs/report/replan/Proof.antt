@@ -17,7 +17,8 @@ use Rattle.trial_record.specs.declared.Record.{Record}
 use Rattle.trials.specs.declared.Reported.{Reported}
 use Rattle.trial_rules.specs.Trials.{failed}
 use Rattle.trial_record.specs.Steps.{replanned}
-use Rattle.trials.specs.Operations.{leaves, reportTests}
+use Rattle.trials.specs.Operations.{leaves}
+use Rattle.judging.specs.Judging.{reportTests}
 use Rattle.book.specs.Tables.{IsGraph}
 use Rattle.trials.proofs.Reporting.{few-known, failed-few, path-short, entry-fits, entered, start-below, area-fits, still-valid, walk-short, has-failed}
 use Rattle.trials.proofs.report.replan.Statement.{statement}

@@ -1,0 +1,5 @@
+pub mod Occurring
+pub mod Weighing
+pub mod Standing
+pub mod Recorded
+pub mod Answering

@@ -1,0 +1,2 @@
+-- Meaning: what a report is refused for.
+pub mod Judging
