@@ -6,7 +6,7 @@ use native.Mathlib.Omega.{arith}
 use lib.ListN.{length, getD, length-append, List·getD-append}
 use lib.Seq.{getD-append-add}
 use Rattle.walks.specs.Avoid.{Long}
-use Rattle.limits.specs.Limits.{mostVertices, mostPaths, entrySize}
+use Rattle.limits.specs.Limits.{mostVertices, mostPaths, entrySize, longestPath}
 use Rattle.automaton.specs.Count.{Below}
 
 -- The first `count` entries are the paths of F.
@@ -21,7 +21,7 @@ pub record Bounded (n : ℕ) (F : List (List ℕ)) : Type 0 where
   pub few-vertices : n ≤ mostVertices
   pub few : length F ≤ mostPaths
   pub long : Long F
-  pub short : (r : List ℕ) → List·Memᴰ r F → length r ≤ 8
+  pub short : (r : List ℕ) → List·Memᴰ r F → length r ≤ longestPath
   pub below : Below n F
 
 -- The bytes spell paths within the bounds.
@@ -34,7 +34,7 @@ pub spells-nil : (area : List ℕ) → Spells area 0 []
 spells-nil area = record { room = omega arith; paths = refl; size = λ j h. absurd (omega arith); vertex = λ j k h. absurd (omega arith) }
 
 -- One entry more in front: the length of r, r, and what fills the entry up to nine bytes.
-pub spells-cons : (r filling area : List ℕ) (count : ℕ) (F : List (List ℕ)) → length r + length filling ≡ 8 → Spells area count F → Spells ((length r ∷ r ++ filling) ++ area) (suc count) (r ∷ F)
+pub spells-cons : (r filling area : List ℕ) (count : ℕ) (F : List (List ℕ)) → length r + length filling ≡ longestPath → Spells area count F → Spells ((length r ∷ r ++ filling) ++ area) (suc count) (r ∷ F)
 spells-cons r filling area count F nine s = record { room = omega (arith, s .room, length-append entry area, nine-bytes); paths = ap suc (s .paths); size = size; vertex = vertex }
   where
     entry : List ℕ

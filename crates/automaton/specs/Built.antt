@@ -4,6 +4,7 @@ use mathlib.Core.List.{List, [], _∷_}
 use mathlib.Core.Path.{_≡_}
 use Prim.Native.Nat.{ℕ, _+_, _*_, _/_, _%_, _^_, _<_, _≤_}
 use lib.ListN.{length, getD}
+use Rattle.limits.specs.Limits.{mostVertices}
 use Rattle.automaton.specs.States.{latest}
 use Rattle.automaton.specs.Automaton.{go, blocked}
 use Rattle.automaton.specs.Count.{statesOf, mostStates, States}
@@ -29,9 +30,9 @@ pub record Built (F : List (List ℕ)) (n m : ℕ) (steps blockeds latests : Lis
   pub counted : m ≤ statesOf n (length F)
   pub states : States n F words
   pub singles : (v : ℕ) → v < n → Numbers words v (v ∷ [])
-  pub step : (q v : ℕ) → q < m → v < n → Numbers words (getD steps (q * 64 + v) 0) (go F (getD words q []) v)
+  pub step : (q v : ℕ) → q < m → v < n → Numbers words (getD steps (q * mostVertices + v) 0) (go F (getD words q []) v)
   pub bits : (q v : ℕ) → q < m → bit (getD blockeds q 0) v ≡ flag (blocked F (getD words q []) v)
   pub stands : (q : ℕ) → q < m → getD latests q 0 ≡ latest (getD words q [])
-  pub steps-room : m * 64 ≤ length steps
+  pub steps-room : m * mostVertices ≤ length steps
   pub blockeds-room : m ≤ length blockeds
   pub latests-room : m ≤ length latests

@@ -20,7 +20,7 @@ use Rattle.automaton.specs.States.{vertex, latest}
 use Rattle.automaton.specs.Automaton.{go, latest-go}
 use Rattle.automaton.specs.Follow.{Follows, feasible-follows}
 use Rattle.automaton.specs.Count.{state-count, states-longest}
-use Rattle.limits.specs.Limits.{mostVertices, mostPaths, longest}
+use Rattle.limits.specs.Limits.{mostVertices, mostPaths, longest, longestPath}
 use Rattle.automaton.specs.Short.{trace, length-trace, rest-of, trace-states, best-bound}
 
 -- ---- every feasible walk has a short one that does not come after it
@@ -193,7 +193,7 @@ abbrev pub Decided : Graph → List (List ℕ) → ℕ → ℕ → Option (List 
 Decided g F s t none = None g F s t
 Decided g F s t (some w) = Best g F s t w × (length w ≤ longest)
 
-module _ (g : Graph) (F : List (List ℕ)) (s t : ℕ) (vertices : g .count ≤ mostVertices) (paths : length F ≤ mostPaths) (size : (r : List ℕ) → List·Memᴰ r F → length r ≤ 8) where
+module _ (g : Graph) (F : List (List ℕ)) (s t : ℕ) (vertices : g .count ≤ mostVertices) (paths : length F ≤ mostPaths) (size : (r : List ℕ) → List·Memᴰ r F → length r ≤ longestPath) where
   -- A listed walk for each feasible one.
   listed : (w : List ℕ) → Feasible g F s t w → (v : List ℕ) × List·Memᴰ v (listsOf (g .count) longest) × T (isFeasible g F s t v) × (v ≼⟨ g ⟩ w)
   listed w f =

@@ -11,7 +11,7 @@ use lib.Seq.{take-at, length-take-le, split-at}
 use Rattle.walks.specs.Avoid.{_⊆_}
 use Rattle.automaton.specs.States.{State, vertex, prefix, latest}
 use Rattle.lists.specs.Distinct.{Distinct, distinct-length, dedup}
-use Rattle.limits.specs.Limits.{mostVertices, mostPaths, longest}
+use Rattle.limits.specs.Limits.{mostVertices, mostPaths, longest, longestPath}
 
 -- The single vertices below n.
 abbrev pub vertices : ℕ → List (List ℕ)
@@ -142,7 +142,7 @@ statesOf n k = n + k * 6
 abbrev pub mostStates : ℕ
 mostStates = statesOf mostVertices mostPaths
 
-pub state-bound : (n : ℕ) (F l : List (List ℕ)) → ((r : List ℕ) → List·Memᴰ r F → length r ≤ 8) → Distinct l → ((q : List ℕ) → List·Memᴰ q l → State F q × (latest q < n)) → length l ≤ statesOf n (length F)
+pub state-bound : (n : ℕ) (F l : List (List ℕ)) → ((r : List ℕ) → List·Memᴰ r F → length r ≤ longestPath) → Distinct l → ((q : List ℕ) → List·Memᴰ q l → State F q × (latest q < n)) → length l ≤ statesOf n (length F)
 state-bound n F l h d only = state-count n 6 F l d only h
 
 pub few-states : (n k : ℕ) → n ≤ mostVertices → k ≤ mostPaths → statesOf n k ≤ mostStates

@@ -11,7 +11,7 @@ use Rattle.lists.specs.Distinct.{Distinct}
 use Rattle.automaton.specs.Area.{Spells, Bounded}
 use Rattle.automaton.specs.Count.{statesOf}
 use Rattle.automaton.specs.Built.{Numbers, bit}
-use Rattle.limits.specs.Limits.{mostPaths}
+use Rattle.limits.specs.Limits.{mostPaths, mostVertices}
 
 -- k is the number of the child w.v, or, while that is no numbered word, of the step over v from the failure link of w.
 abbrev pub Row : List (List ℕ) → List (List ℕ) → List ℕ → ℕ → ℕ → Type 0
@@ -43,7 +43,7 @@ pub record Numbering (F : List (List ℕ)) (n l first m : ℕ) (words : List (Li
 
 -- Room for that many states.
 pub record Room (most : ℕ) (steps blockeds latests fails : List ℕ) : Type 0 where
-  pub of-steps : most * 64 ≤ length steps
+  pub of-steps : most * mostVertices ≤ length steps
   pub of-blockeds : most ≤ length blockeds
   pub of-latests : most ≤ length latests
   pub of-fails : most ≤ length fails
@@ -57,7 +57,7 @@ pub record Progress (F : List (List ℕ)) (n l i first done m : ℕ) (steps bloc
   pub ordered : (first ≤ done) × (done ≤ m)
   pub behind : (j : ℕ) → j < i → j < length F → suc l < length (getD F j []) → Numbers words (getD current j 0) (reverse (take (suc l) (getD F j [])))
   pub ahead : (j : ℕ) → i ≤ j → j < length F → l < length (getD F j []) → Numbers words (getD current j 0) (reverse (take l (getD F j [])))
-  pub rows : (q v : ℕ) → q < done → v < n → Row F words (getD words q []) v (getD steps (q * 64 + v) 0)
+  pub rows : (q v : ℕ) → q < done → v < n → Row F words (getD words q []) v (getD steps (q * mostVertices + v) 0)
   pub bits : (q v : ℕ) → q < done → BitKnown F l i (getD words q []) v (bit (getD blockeds q 0) v)
   pub links : (q : ℕ) → first ≤ q → q < m → Numbers words (getD fails q 0) (fail F (getD words q []))
   pub stands : (q : ℕ) → q < m → getD latests q 0 ≡ latest (getD words q [])

@@ -3,7 +3,7 @@ use mathlib.Core.List.{List}
 use mathlib.Core.Path.{_≡_}
 use Prim.Native.Nat.{ℕ, _+_, _*_, _<_}
 use lib.ListN.{length, getD}
-use Rattle.limits.specs.Limits.{mostPaths, entrySize}
+use Rattle.limits.specs.Limits.{mostPaths, entrySize, mostVertices}
 
 -- 0, 1, … stand from `at` on, and what is before is as it was.
 pub record Filled (old new : List ℕ) (from n : ℕ) : Type 0 where
@@ -19,7 +19,7 @@ pub record Copied (old new : List ℕ) (from to n : ℕ) : Type 0 where
 
 -- The first k of n vertices, as states, step to each vertex; nothing is blocked.
 pub record Singles (n k : ℕ) (steps blockeds latests : List ℕ) : Type 0 where
-  pub rows : (q v : ℕ) → q < k → v < n → getD steps (q * 64 + v) 0 ≡ v
+  pub rows : (q v : ℕ) → q < k → v < n → getD steps (q * mostVertices + v) 0 ≡ v
   pub blockeds-are : (q : ℕ) → q < k → getD blockeds q 0 ≡ 0
   pub latests-are : (q : ℕ) → q < k → getD latests q 0 ≡ q
 

@@ -14,7 +14,7 @@ use Rattle.automaton.specs.States.{State, vertex, latest}
 use Rattle.automaton.specs.Automaton.{go, go-state, latest-go}
 use Rattle.automaton.specs.Follow.{Follows, feasible-follows}
 use Rattle.lists.specs.Distinct.{Distinct}
-use Rattle.limits.specs.Limits.{mostVertices, mostPaths, heaviest, longest}
+use Rattle.limits.specs.Limits.{mostVertices, mostPaths, heaviest, longest, longestPath}
 use Rattle.automaton.specs.Count.{state-count, states-longest}
 use Rattle.automaton.specs.Cost.{_≤ᶜ_, costOf, via-cancel}
 
@@ -97,8 +97,8 @@ module _ (g : Graph) (F : List (List ℕ)) (t : ℕ) where
         count = omega (arith, length-trace F (s ∷ []) c, state-count (g .count) m F (trace F (s ∷ []) c) distinct (trace-states c (s ∷ []) (vertex s refl) below follows) h)
 
     -- With at most 64 vertices and 256 paths of at most 8 vertices: at most 1,600 vertices, and at most 1,599,000,000 where no arc weighs over 1,000,000.
-    pub best-bound : g .count ≤ mostVertices → length F ≤ mostPaths → ((r : List ℕ) → List·Memᴰ r F → length r ≤ 8) → length w ≤ longest
+    pub best-bound : g .count ≤ mostVertices → length F ≤ mostPaths → ((r : List ℕ) → List·Memᴰ r F → length r ≤ longestPath) → length w ≤ longest
     best-bound a b h = states-longest (length w) (omega (arith, best-length 6 h))
 
-    pub best-weight : g .count ≤ mostVertices → length F ≤ mostPaths → ((r : List ℕ) → List·Memᴰ r F → length r ≤ 8) → ((u v : ℕ) → arcWeight g u v ≤ heaviest) → weightOf g w ≤ 1599000000
+    pub best-weight : g .count ≤ mostVertices → length F ≤ mostPaths → ((r : List ℕ) → List·Memᴰ r F → length r ≤ longestPath) → ((u v : ℕ) → arcWeight g u v ≤ heaviest) → weightOf g w ≤ 1599000000
     best-weight a b h l = omega (arith, best-bound a b h, hops-length w (best .feasible .walk), weight-bound g heaviest l w)

@@ -10,6 +10,7 @@ ghost use Rattle.automaton.specs.Built.{Built};
 ghost use Rattle.automaton.specs.Progress.{Room, Progress, Reached, Waiting};
 ghost use Rattle.automaton.specs.Rows.{Filled, Copied, Singles, Starts};
 use limits::ENTRY;
+use limits::LONGEST_PATH;
 use limits::MOST_PATHS;
 use limits::MOST_VERTICES;
 use lists::wide;
@@ -196,7 +197,7 @@ pub fn build(
     starts(area, count, &mut current);
     let mut first = vertices;
     let mut level = 1;
-    while level < 8 {
+    while level < LONGEST_PATH {
         let states = children(
             area,
             count,

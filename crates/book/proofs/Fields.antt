@@ -7,6 +7,7 @@ use mathlib.Core.Option.{Option, none, some}
 use native.Mathlib.Omega.{arith}
 use borrow.Author.Tests.{leb-true}
 use lib.ListN.{length}
+use Rattle.limits.specs.Limits.{areaSize, mostPaths}
 use Rattle.book.specs.declared.Refusal.{Refusal}
 use Rattle.book.specs.declared.Answer.the-variants.{Read, Refused}
 use Rattle.book.specs.declared.Counts.{Counts}
@@ -88,10 +89,10 @@ module _ (s : List ℕ) (b : Book) (at : ℕ) (w f o p : List ℕ) where
       record {
         weights-are = held .weights-are ∙ untouched RuleSet s b at (λ d. weightTable (d .arcs)) refl;
         flags-are = changed;
-        owners-are = held .owners-are ∙ untouched RuleSet s b at (λ d. ownerTable (d .sets)) (ap (padded 256) (owners-set (flagsAt s at) 0 (b .sets)));
+        owners-are = held .owners-are ∙ untouched RuleSet s b at (λ d. ownerTable (d .sets)) (ap (padded mostPaths) (owners-set (flagsAt s at) 0 (b .sets)));
         paths-are =
             held .paths-are
-            ∙ untouched RuleSet s b at (λ d. pathTable (d .sets)) (ap (λ l. padded 2304 (entries l)) (paths-set (flagsAt s at) (b .sets)));
+            ∙ untouched RuleSet s b at (λ d. pathTable (d .sets)) (ap (λ l. padded areaSize (entries l)) (paths-set (flagsAt s at) (b .sets)));
       }
 
   pub tables-path : (o′ p′ : List ℕ) → Tables b w f o p

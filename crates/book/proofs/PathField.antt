@@ -7,6 +7,7 @@ use native.Mathlib.Omega.{arith}
 use borrow.Author.Tests.{lt-ltb, le-ltb}
 use lib.ListN.{length, set, take, drop}
 use lib.Seq.{paste, length-slice, take-take}
+use Rattle.limits.specs.Limits.{areaSize, entrySize, longestPath, mostPaths}
 use Rattle.lists.specs.Paste.{slice-part}
 use Rattle.book.specs.declared.Answer.{Answer}
 use Rattle.book.specs.declared.Answer.the-variants.{Read, Refused}
@@ -23,7 +24,7 @@ use Rattle.book.proofs.Padded.{padded-set, padded-entry}
 use Rattle.book.proofs.Taken.{taken-value, taken-many, taken-whole}
 
 -- the owner right after the others'
-owner-added : (o : List ℕ) (k x : ℕ) (ss : List RuleSet) (p : List ℕ) → 1 ≤ length ss → o ≡ ownerTable ss → k ≡ length (allPaths ss) → k < 256 → x ≡ length ss - 1
+owner-added : (o : List ℕ) (k x : ℕ) (ss : List RuleSet) (p : List ℕ) → 1 ≤ length ss → o ≡ ownerTable ss → k ≡ length (allPaths ss) → k < mostPaths → x ≡ length ss - 1
     → set o k x ≡ ownerTable (addPath ss p)
 owner-added o k x ss p some-set held count room value =
     let size = length-owners 0 ss in
@@ -33,16 +34,16 @@ owner-added o k x ss p some-set held count room value =
     ∙ ap (padded 256) (sym (owners-path p 0 ss some-set))
 
 -- the entry right after the others
-entry-added : (e : List ℕ) (k n : ℕ) (ss : List RuleSet) (p : List ℕ) → 1 ≤ length ss → e ≡ pathTable ss → k ≡ length (allPaths ss) → k < 256
-    → All (λ q. length q ≤ 8) (allPaths ss) → n ≡ length p → n ≤ 8
-    → paste (set e (k * 9) n) (k * 9 + 1) p n ≡ pathTable (addPath ss p)
+entry-added : (e : List ℕ) (k n : ℕ) (ss : List RuleSet) (p : List ℕ) → 1 ≤ length ss → e ≡ pathTable ss → k ≡ length (allPaths ss) → k < mostPaths
+    → All (λ q. length q ≤ longestPath) (allPaths ss) → n ≡ length p → n ≤ longestPath
+    → paste (set e (k * entrySize) n) (k * entrySize + 1) p n ≡ pathTable (addPath ss p)
 entry-added e k n ss p some-set held count room short size small =
     let all : List ℕ = entries (allPaths ss) in
-    let length-all : k * 9 ≡ length all = omega (arith, length-entries (allPaths ss) short) in
-    ap (λ l. paste (set l (k * 9) n) (k * 9 + 1) p n) held
-    ∙ ap₂ (λ j m. paste (set (padded 2304 all) j m) (j + 1) p m) length-all size
-    ∙ padded-entry 2304 all p (omega arith) (omega arith)
-    ∙ ap (padded 2304) (sym (entries-snoc (allPaths ss) p) ∙ ap entries (sym (paths-path p ss some-set)))
+    let length-all : k * entrySize ≡ length all = omega (arith, length-entries (allPaths ss) short) in
+    ap (λ l. paste (set l (k * entrySize) n) (k * entrySize + 1) p n) held
+    ∙ ap₂ (λ j m. paste (set (padded areaSize all) j m) (j + 1) p m) length-all size
+    ∙ padded-entry areaSize all p (omega arith) (omega arith)
+    ∙ ap (padded areaSize) (sym (entries-snoc (allPaths ss) p) ∙ ap entries (sym (paths-path p ss some-set)))
 
 module _ (c : Counts) (s : List ℕ) (b : Book) (at : ℕ) (so-far : c ≡ counts b) (w : WellFormed b) (o e : List ℕ) (owners-held : o ≡ ownerTable (b .sets)) (paths-held : e ≡ pathTable (b .sets)) where
   value-is : (x : Bool) → simple (c .vertices) (pathAt s at) ≡ x → proper Path s b at ≡ x
@@ -51,16 +52,16 @@ module _ (c : Counts) (s : List ℕ) (b : Book) (at : ℕ) (so-far : c ≡ count
   -- the bytes that were copied, in the definition's terms
   pub copied : (r : ℕ) → r ≡ endAt s at → endAt s at ≤ length s → (e′ : List ℕ)
       → let n = r - (at + 3) in
-      e′ ≡ paste (set e (c .paths * 9) (n % 256)) (c .paths * 9 + 1) (drop (at + 3) s) n
-      → e′ ≡ paste (set e (c .paths * 9) (lengthAt s at % 256)) (c .paths * 9 + 1) (pathAt s at) (lengthAt s at)
+      e′ ≡ paste (set e (c .paths * entrySize) (n % 256)) (c .paths * entrySize + 1) (drop (at + 3) s) n
+      → e′ ≡ paste (set e (c .paths * entrySize) (lengthAt s at % 256)) (c .paths * entrySize + 1) (pathAt s at) (lengthAt s at)
   copied r end whole e′ copy =
       let n = lengthAt s at in
       let n-is : r - (at + 3) ≡ n = omega arith in
       let part : take n (drop (at + 3) s) ≡ take n (pathAt s at) =
       sym (ap (take n) (slice-part (at + 3) n s whole) ∙ take-take n n (drop (at + 3) s) (omega arith)) in
       copy
-      ∙ ap (λ m. paste (set e (c .paths * 9) (m % 256)) (c .paths * 9 + 1) (drop (at + 3) s) m) n-is
-      ∙ ap (λ l. take (c .paths * 9 + 1) (set e (c .paths * 9) (n % 256)) ++ l ++ drop (c .paths * 9 + 1 + n) (set e (c .paths * 9) (n % 256))) part
+      ∙ ap (λ m. paste (set e (c .paths * entrySize) (m % 256)) (c .paths * entrySize + 1) (drop (at + 3) s) m) n-is
+      ∙ ap (λ l. take (c .paths * entrySize + 1) (set e (c .paths * entrySize) (n % 256)) ++ l ++ drop (c .paths * entrySize + 1 + n) (set e (c .paths * entrySize) (n % 256))) part
 
   -- what a path's field answers, with what the tables are then
   abbrev Answers : Answer → List ℕ → List ℕ → Type 0
@@ -81,10 +82,10 @@ module _ (c : Counts) (s : List ℕ) (b : Book) (at : ℕ) (so-far : c ≡ count
   path-many q many =
       stays _ (taken-many Path s b at (value-is true q) refl (le-ltb (length (allPaths (b .sets))) 256 (omega (arith, ap (λ (d : Counts). d .paths) so-far)))) refl
 
-  pub path-added : simple (c .vertices) (pathAt s at) ≡ true → c .paths < 256 → 1 ≤ c .sets → endAt s at ≤ length s → lengthAt s at ≤ 8
+  pub path-added : simple (c .vertices) (pathAt s at) ≡ true → c .paths < mostPaths → 1 ≤ c .sets → endAt s at ≤ length s → lengthAt s at ≤ longestPath
       → Answers (Read (record { vertices = c .vertices; arcs = c .arcs; sets = c .sets; paths = c .paths + 1 }))
       (set o (c .paths) ((c .sets - 1) % 256))
-      (paste (set e (c .paths * 9) (lengthAt s at % 256)) (c .paths * 9 + 1) (pathAt s at) (lengthAt s at))
+      (paste (set e (c .paths * entrySize) (lengthAt s at % 256)) (c .paths * entrySize + 1) (pathAt s at) (lengthAt s at))
   path-added q room some-set whole short =
       let sets-are : c .sets ≡ length (b .sets) = ap (λ (d : Counts). d .sets) so-far in
       let paths-are : c .paths ≡ length (allPaths (b .sets)) = ap (λ (d : Counts). d .paths) so-far in
@@ -95,7 +96,7 @@ module _ (c : Counts) (s : List ℕ) (b : Book) (at : ℕ) (so-far : c ≡ count
         ap Read (counts-path c s b at so-far some-set) ∙ sym (ap readAs is),
         owner-added o (c .paths) _ (b .sets) (pathAt s at) (omega arith) owners-held paths-are room owner
             ∙ ap (λ r. ownerTable (kept b r .sets)) (sym is),
-        ap (λ m. paste (set e (c .paths * 9) m) (c .paths * 9 + 1) (pathAt s at) (lengthAt s at)) byte
+        ap (λ m. paste (set e (c .paths * entrySize) m) (c .paths * entrySize + 1) (pathAt s at) (lengthAt s at)) byte
             ∙ entry-added e (c .paths) (lengthAt s at) (b .sets) (pathAt s at) (omega arith) paths-held paths-are room
             (all-map (λ p h. h .eight) (allPaths (b .sets)) (w .paths-proper)) (sym size) short
             ∙ ap (λ r. pathTable (kept b r .sets)) (sym is),

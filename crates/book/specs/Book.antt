@@ -6,7 +6,7 @@ use mathlib.Core.Bool.{Bool, true, false, not, _&&_, _||_}
 use mathlib.Core.List.{List, [], _∷_, _++_}
 use lib.ListN.{length}
 use lib.Dec.{eqb, leb, ltb}
-use Rattle.limits.specs.Limits.{mostVertices, heaviest, mostSets, mostPaths}
+use Rattle.limits.specs.Limits.{mostVertices, heaviest, mostSets, mostPaths, longestPath}
 use Rattle.walks.specs.Graph.{Graph, Arc, isSome, weightIn, fromArcs}
 use Rattle.book.specs.declared.Counts.{Counts}
 
@@ -55,7 +55,7 @@ simple count (v ∷ vs) = ltb v count && not (names vs v) && simple count vs
 
 -- 01: a run that the book's rules take, in a book with `count` vertices: 2 to 8 vertices below the count, none named twice
 abbrev pub pathLength : ℕ → Bool
-pathLength n = leb 2 n && leb n 8
+pathLength n = leb 2 n && leb n longestPath
 
 unfoldable pub isPath : ℕ → List ℕ → Bool
 isPath count p = pathLength (length p) && simple count p
@@ -89,7 +89,7 @@ VerticesOnce (v ∷ vs) = (names vs v ≡ false) × VerticesOnce vs
 -- a forbidden path of a book with `count` vertices
 pub record IsPath (count : ℕ) (p : List ℕ) : Type 0 where
   pub two : 2 ≤ length p
-  pub eight : length p ≤ 8
+  pub eight : length p ≤ longestPath
   pub below : All (λ v. v < count) p
   pub once : VerticesOnce p
 

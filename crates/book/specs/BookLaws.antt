@@ -11,6 +11,7 @@ use borrow.Author.Tests.{ltb-true, leb-true, le-leb, eqb-true, eqb-false, eq-eqb
 use lib.Dec.{eqb, leb, ltb}
 use lib.ListN.{length, length-append}
 use lib.Seq.{length-slice}
+use Rattle.limits.specs.Limits.{longestPath, mostPaths, mostVertices}
 use Rattle.book.specs.declared.Refusal.{Refusal}
 use Rattle.book.specs.declared.Answer.the-variants.{Read, Refused}
 use Rattle.book.specs.declared.Counts.{Counts}
@@ -67,8 +68,8 @@ path-simple count (v ∷ vs) below once = rw (lt-ltb v count (below .0), once .0
 pub isPath→IsPath : (count : ℕ) (p : List ℕ) → isPath count p ≡ true → IsPath count p
 unfolding isPath
 isPath→IsPath count p e =
-    let (size, vertices) = and-true (leb 2 (length p) && leb (length p) 8) (simple count p) e in
-    let (low, high) = and-true (leb 2 (length p)) (leb (length p) 8) size in
+    let (size, vertices) = and-true (leb 2 (length p) && leb (length p) longestPath) (simple count p) e in
+    let (low, high) = and-true (leb 2 (length p)) (leb (length p) longestPath) size in
     record { two = leb-true _ _ low; eight = leb-true _ _ high; below = simple-below count p vertices; once = simple-once count p vertices }
 
 pub IsPath→isPath : (count : ℕ) (p : List ℕ) → IsPath count p → isPath count p ≡ true
@@ -163,7 +164,7 @@ module _ (s : List ℕ) (b : Book) (at : ℕ) (b′ : Book) (e : field s b at �
       }
 
 -- a field keeps a book well formed
-count-well-formed : (n : ℕ) (b : Book) → WellFormed b → b .count ≡ 0 → 1 ≤ n → n ≤ 64
+count-well-formed : (n : ℕ) (b : Book) → WellFormed b → b .count ≡ 0 → 1 ≤ n → n ≤ mostVertices
     → WellFormed (record { count = n; arcs = b .arcs; sets = b .sets })
 count-well-formed n b w first low high =
     record {
@@ -206,7 +207,7 @@ set-well-formed f b w low space =
       paths-proper = rw (paths-set f (b .sets)) (w .paths-proper);
     }
 
-path-well-formed : (p : List ℕ) (b : Book) → WellFormed b → 1 ≤ length (b .sets) → IsPath (b .count) p → length (allPaths (b .sets)) < 256
+path-well-formed : (p : List ℕ) (b : Book) → WellFormed b → 1 ≤ length (b .sets) → IsPath (b .count) p → length (allPaths (b .sets)) < mostPaths
     → WellFormed (record { count = b .count; arcs = b .arcs; sets = addPath (b .sets) p })
 path-well-formed p b w some-set proper-path space =
     record {
@@ -227,13 +228,13 @@ extended-well-formed : (k : Kind) (s : List ℕ) (b : Book) (at : ℕ) → WellF
     → follows (b .count) (length (b .sets)) k ≡ true → fits k (lengthAt s at) ≡ true → endAt s at ≤ length s
     → proper k s b at ≡ true → fresh k s b at ≡ true → room k b ≡ true → WellFormed (extended k s b at)
 extended-well-formed VertexCount s b at w order fit whole value once space =
-    let limits = and-true (leb 1 (countAt s at)) (leb (countAt s at) 64) value in
+    let limits = and-true (leb 1 (countAt s at)) (leb (countAt s at) mostVertices) value in
     count-well-formed (countAt s at) b w (eqb-true _ 0 order) (leb-true _ _ (limits .0)) (leb-true _ _ (limits .1))
 extended-well-formed Kind.Arc s b at w order fit whole value once space = arc-well-formed (arcAt s at) b w value (not-true _ once)
 extended-well-formed Kind.RuleSet s b at w order fit whole value once space =
     set-well-formed (flagsAt s at) b w (not-zero (b .count) order) (ltb-true _ _ space)
 extended-well-formed Path s b at w order fit whole value once space =
-    let limits = and-true (leb 2 (lengthAt s at)) (leb (lengthAt s at) 8) fit in
+    let limits = and-true (leb 2 (lengthAt s at)) (leb (lengthAt s at) longestPath) fit in
     let size : length (pathAt s at) ≡ lengthAt s at = length-slice (at + 3) (endAt s at) s whole ∙ omega arith in
     path-well-formed (pathAt s at) b w (not-zero (length (b .sets)) order)
     (record {

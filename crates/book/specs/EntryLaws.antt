@@ -4,7 +4,7 @@ use mathlib.Core.Path.{_≡_, refl, sym, ap, _∙_}
 use mathlib.Core.List.{List, [], _∷_, _++_, append-assoc, append-nil}
 use native.Mathlib.Omega.{arith}
 use lib.ListN.{length, length-append, length-replicate}
-use Rattle.limits.specs.Limits.{entrySize}
+use Rattle.limits.specs.Limits.{entrySize, longestPath}
 use Rattle.book.specs.Book.{RuleSet, All, allPaths}
 use Rattle.book.specs.Tables.{padded, entry, entries, ownersFrom}
 
@@ -18,7 +18,7 @@ length-owners k (s ∷ ss) = simp (length-append, length-replicate, length-owner
 
 -- A path that an entry has room for.
 abbrev pub Short : List ℕ → Type 0
-Short p = length p ≤ 8
+Short p = length p ≤ longestPath
 
 pub length-entry : (p : List ℕ) → Short p → length (entry p) ≡ 9
 length-entry p h = simp (length-append, length-replicate) (omega arith)

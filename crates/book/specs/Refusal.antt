@@ -63,14 +63,18 @@ allHold (t ∷ ts) = t .holds && allHold ts
 abbrev pub order : List ℕ
 order = 8 ∷ 7 ∷ 9 ∷ 10 ∷ 11 ∷ 12 ∷ 13 ∷ []
 
--- The tests of an operation in that order, however it lists them.
+-- The tests of an operation in that order, however it lists them; none is left out.
 abbrev pub withNumber : ℕ → List Test → List Test
 withNumber n [] = []
 withNumber n (t ∷ ts) = cond (eqb (numberOf (t .refusal) .number) n) (t ∷ withNumber n ts) (withNumber n ts)
 
+abbrev pub withoutNumber : ℕ → List Test → List Test
+withoutNumber n [] = []
+withoutNumber n (t ∷ ts) = cond (eqb (numberOf (t .refusal) .number) n) (withoutNumber n ts) (t ∷ withoutNumber n ts)
+
 abbrev pub inOrder : List ℕ → List Test → List Test
-inOrder [] ts = []
-inOrder (n ∷ ns) ts = withNumber n ts ++ inOrder ns ts
+inOrder [] ts = ts
+inOrder (n ∷ ns) ts = withNumber n ts ++ inOrder ns (withoutNumber n ts)
 
 -- What an operation that makes these tests is refused for.
 abbrev pub refusalBy : List Test → Option Refusal

@@ -3,7 +3,7 @@ use Prim.Native.Nat.{ℕ, suc, _+_, _-_, _*_}
 use mathlib.Core.Path.{_≡_}
 use mathlib.Core.List.{List, [], _∷_, _++_, map}
 use lib.ListN.{length, set, replicate}
-use Rattle.limits.specs.Limits.{mostVertices, pairs, mostSets, mostPaths, areaSize, noArc}
+use Rattle.limits.specs.Limits.{mostVertices, pairs, mostSets, mostPaths, areaSize, noArc, longestPath}
 use Rattle.walks.specs.Graph.{Arc}
 use Rattle.book.specs.Book.{RuleSet, Book, WellFormed, allPaths}
 
@@ -30,7 +30,7 @@ ownersFrom k (s ∷ ss) = replicate (length (s .paths)) k ++ ownersFrom (suc k) 
 
 -- a forbidden path as an entry of nine bytes: its length, its vertices, and zeros
 abbrev pub entry : List ℕ → List ℕ
-entry p = length p ∷ padded 8 p
+entry p = length p ∷ padded longestPath p
 
 unfoldable pub entries : List (List ℕ) → List ℕ
 entries [] = []

@@ -17,6 +17,7 @@ use crate::Refusal;
 use limits::AREA;
 use limits::ENTRY;
 use limits::HEAVIEST;
+use limits::LONGEST_PATH;
 use limits::MOST_PATHS;
 use limits::MOST_SETS;
 use limits::MOST_VERTICES;
@@ -56,7 +57,7 @@ fn fits(kind: Kind, n: usize) -> bool
         Kind::VertexCount => n == 1,
         Kind::Arc => n == 6,
         Kind::RuleSet => n == 2,
-        Kind::Path => 2 <= n && n <= 8,
+        Kind::Path => 2 <= n && n <= LONGEST_PATH,
         Kind::Unknown => false,
     }
 }
@@ -226,7 +227,7 @@ pub fn is_path(bytes: &[u8], from: usize, to: usize, vertices: usize) -> bool
     if n < 2 {
         return false;
     }
-    if 8 < n {
+    if LONGEST_PATH < n {
         return false;
     }
     simple(bytes, from, to, vertices)

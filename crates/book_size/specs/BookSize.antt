@@ -8,6 +8,7 @@ use native.Mathlib.Omega.{arith}
 use borrow.Author.Tests.{ltb-true, ltb-false, leb-true, eqb-true, eq-eqb}
 use lib.Dec.{eqb, leb, ltb}
 use lib.ListN.{length, length-append, length-map}
+use Rattle.limits.specs.Limits.{longestPath}
 use Rattle.lists.specs.Distinct.{Distinct}
 use Rattle.lists.specs.Test.{and-true, or-false}
 use Rattle.lists.specs.Pigeonhole.{pigeonhole}
@@ -106,7 +107,7 @@ next-sized Kind.RuleSet s b at w z order fit value =
     }
 next-sized Path s b at w z order fit value =
     let some : 1 ≤ length (b .sets) = not-zero (length (b .sets)) order in
-    let eight : lengthAt s at ≤ 8 = leb-true _ _ (and-true (leb 2 (lengthAt s at)) (leb (lengthAt s at) 8) fit .1) in
+    let eight : lengthAt s at ≤ longestPath = leb-true _ _ (and-true (leb 2 (lengthAt s at)) (leb (lengthAt s at) longestPath) fit .1) in
     record {
       within =
           omega (

@@ -9,6 +9,7 @@ use borrow.Author.Tests.{le-leb, lt-ltb, ltb-false, leb-true, eqb-true}
 use lib.Dec.{leb, ltb}
 use lib.ListN.{length, getD, take, drop}
 use lib.Seq.{getD-take, take-take, length-take-le}
+use Rattle.limits.specs.Limits.{longestPath, mostPaths}
 use Rattle.lists.specs.Test.{and-true}
 use Rattle.walks.specs.Graph.{Arc}
 use Rattle.book.specs.declared.Kind.{Kind}
@@ -42,11 +43,11 @@ judged value once space e at =
     (firstFailure (record { holds = value; refusal = Value at } ∷ record { holds = once; refusal = Repeated at } ∷ record { holds = space; refusal = TooMany at } ∷ []))
     e
 
-fits-eight : (k : Kind) (n : ℕ) → fits k n ≡ true → n ≤ 8
+fits-eight : (k : Kind) (n : ℕ) → fits k n ≡ true → n ≤ longestPath
 fits-eight VertexCount n e = omega (arith, eqb-true n 1 e)
 fits-eight Kind.Arc n e = omega (arith, eqb-true n 6 e)
 fits-eight Kind.RuleSet n e = omega (arith, eqb-true n 2 e)
-fits-eight Path n e = leb-true n 8 (and-true (leb 2 n) (leb n 8) e .1)
+fits-eight Path n e = leb-true n longestPath (and-true (leb 2 n) (leb n longestPath) e .1)
 fits-eight Unknown n e = absurd (false≢true e)
 
 module _ (s : List ℕ) (m : ℕ) (b : Book) (at : ℕ) (within : at + 11 ≤ m) (long : m ≤ length s) where
@@ -76,10 +77,10 @@ module _ (s : List ℕ) (m : ℕ) (b : Book) (at : ℕ) (within : at + 11 ≤ m)
   flags-same : flagsAt front at ≡ flagsAt s at
   flags-same = ap₂ (λ x y. x * 256 + y) (byte (at + 3) (omega arith)) (byte (at + 3 + 1) (omega arith))
 
-  path-same : lengthAt s at ≤ 8 → pathAt front at ≡ pathAt s at
+  path-same : lengthAt s at ≤ longestPath → pathAt front at ≡ pathAt s at
   path-same h = ap (λ n. drop (at + 3) (take (at + 3 + n) front)) length-same ∙ ap (drop (at + 3)) (take-take (at + 3 + lengthAt s at) m s (omega arith))
 
-  taken-same : (k : Kind) → lengthAt s at ≤ 8 → taken k front b at ≡ taken k s b at
+  taken-same : (k : Kind) → lengthAt s at ≤ longestPath → taken k front b at ≡ taken k s b at
   taken-same VertexCount h =
       ap (λ c. judged (leb 1 c && leb c 64) true true (record { count = c; arcs = b .arcs; sets = b .sets }) at) (byte (at + 3) (omega arith))
   taken-same Kind.Arc h =
@@ -94,7 +95,7 @@ module _ (s : List ℕ) (m : ℕ) (b : Book) (at : ℕ) (within : at + 11 ≤ m)
       flags-same
   taken-same Path h =
       ap
-      (λ p. judged (simple (b .count) p) true (ltb (length (allPaths (b .sets))) 256)
+      (λ p. judged (simple (b .count) p) true (ltb (length (allPaths (b .sets))) mostPaths)
       (record { count = b .count; arcs = b .arcs; sets = addPath (b .sets) p }) at)
       (path-same h)
   taken-same Unknown h = refl

@@ -5,8 +5,8 @@ use mathlib.Core.Path.{_≡_, refl, sym, ap, ap₂, _∙_}
 use native.Mathlib.Omega.{arith}
 use Rattle.book.specs.declared.Number.{Number}
 use Rattle.book.specs.declared.Refusal.{Refusal}
-use Rattle.book.specs.declared.Refusal.the-variants.{Truncated, Tag, Length, Value, Repeated, TooMany, Endpoint, Area, Invalid, NotAWalk, Ended, NotStanding, Full}
 use Rattle.book.specs.Refusal.{numberOf, numbered}
+use Rattle.book.specs.RefusalLaws.{refusal-again}
 use Rattle.trial_record.specs.declared.Record.{Record}
 use Rattle.trials.specs.declared.Begun.{Begun}
 use Rattle.cases.specs.Same.{Tells}
@@ -20,22 +20,6 @@ module _ {A : Type 0} {x y : A} where
 pub same-fields : (x y : Record) → x .stage ≡ y .stage → x .start ≡ y .start → x .end ≡ y .end → x .known ≡ y .known → x .first ≡ y .first → x .failed ≡ y .failed → x .passed ≡ y .passed → x .litres ≡ y .litres → x .length ≡ y .length → x ≡ y
 same-fields x y e₁ e₂ e₃ e₄ e₅ e₆ e₇ e₈ e₉ =
     λ i. record { stage = e₁ i; start = e₂ i; end = e₃ i; known = e₄ i; first = e₅ i; failed = e₆ i; passed = e₇ i; litres = e₈ i; length = e₉ i }
-
--- A refusal is known by its number and its place.
-refusal-again : (r : Refusal) → numbered (numberOf r .number) (numberOf r .place) ≡ r
-refusal-again (Truncated at) = refl
-refusal-again (Tag at) = refl
-refusal-again (Length at) = refl
-refusal-again (Value at) = refl
-refusal-again (Repeated at) = refl
-refusal-again (TooMany at) = refl
-refusal-again Endpoint = refl
-refusal-again Area = refl
-refusal-again Invalid = refl
-refusal-again NotAWalk = refl
-refusal-again Ended = refl
-refusal-again NotStanding = refl
-refusal-again Full = refl
 
 -- What tells two refusals apart.
 module _ (x y : Refusal) {a b : Number} (of-x : a ≡ numberOf x) (of-y : b ≡ numberOf y) where

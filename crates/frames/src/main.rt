@@ -2,10 +2,10 @@
 use cases::Next;
 
 // A kind, and as many bytes as 'plan' reads.
-const LONGEST: usize = 65_537;
+const LONGEST_CASE: usize = 65_537;
 
 fn main() {
-    let mut space = [0u8; LONGEST];
+    let mut space = [0u8; LONGEST_CASE];
     let buffer: &mut [u8] = &mut space;
     for _ in 0..65536usize {
         let next = cases::next_case(buffer);

@@ -8,8 +8,10 @@ use cases::refusal;
 use cases::text;
 use limits::AREA;
 use limits::ENTRY;
+use limits::LONGEST_PATH;
 use limits::MOST_PATHS;
 use limits::MOST_SETS;
+use limits::MOST_VERTICES;
 use limits::NO_ARC;
 use limits::PAIRS;
 use lists::wide;
@@ -40,12 +42,12 @@ fn write_counts(c: Counts) {
 
 // In rising order of tail, then head.
 fn write_arcs(weights: &[u32; PAIRS]) {
-    for pair in 0..4096usize {
+    for pair in 0..PAIRS {
         let weight = weights[pair];
         if weight != NO_ARC {
             text(b"ARC");
-            number(pair / 64);
-            number(pair % 64);
+            number(pair / MOST_VERTICES);
+            number(pair % MOST_VERTICES);
             number(wide32(weight));
             text(b"\n");
         }
@@ -57,7 +59,7 @@ fn write_path(entries: &[u8; AREA], j: usize)
 {
     text(b"RUN");
     let n = wide(entries[j * ENTRY]);
-    for k in 0..8usize {
+    for k in 0..LONGEST_PATH {
         if k < n {
             number(wide(entries[j * ENTRY + 1 + k]));
         }
@@ -66,7 +68,7 @@ fn write_path(entries: &[u8; AREA], j: usize)
 }
 
 fn write_paths_of(set: usize, count: usize, owners: &[u8; MOST_PATHS], entries: &[u8; AREA]) {
-    for j in 0..256usize {
+    for j in 0..MOST_PATHS {
         if j < count {
             if wide(owners[j]) == set {
                 write_path(entries, j);

@@ -18,7 +18,11 @@ mostSets = 16
 abbrev pub mostPaths : ℕ
 mostPaths = 256
 
--- The runs area: an entry for each path, of a length and eight vertices.
+-- The vertices of a forbidden path (01: a run has at most 8 grades).
+abbrev pub longestPath : ℕ
+longestPath = 8
+
+-- The runs area: an entry for each path, of its length and room for its vertices.
 abbrev pub entrySize : ℕ
 entrySize = 9
 

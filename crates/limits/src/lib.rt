@@ -11,7 +11,10 @@ pub const MOST_SETS: usize = 16;
 
 pub const MOST_PATHS: usize = 256;
 
-// The runs area: an entry for each path, of a length and eight vertices.
+// The vertices of a forbidden path.
+pub const LONGEST_PATH: usize = 8;
+
+// The runs area: an entry for each path, of its length and room for its vertices.
 pub const ENTRY: usize = 9;
 
 pub const AREA: usize = 2304;

@@ -6,6 +6,7 @@ use mathlib.Core.List.{List, [], _∷_, _++_, map, append-assoc, append-nil}
 use mathlib.Core.Option.{none, some}
 use borrow.Author.Tests.{le-leb, lt-ltb, ne-eqb}
 use lib.Dec.{eqb, leb}
+use Rattle.limits.specs.Limits.{mostVertices}
 use Rattle.lists.specs.Test.{or-false}
 use Rattle.walks.specs.Graph.{Arc}
 use Rattle.book.specs.declared.Refusal.the-variants.{Value, Repeated}
@@ -64,7 +65,7 @@ pub listed-book : (s : List ℕ) (b : Book) → reading s ≡ accepted b → (xs
     → listing (b .count) xs ≡ accepted (record { count = b .count; arcs = b .arcs; sets = [] })
 listed-book s b read xs same =
     let is = reading-is-book s b read in
-    let limits : leb 1 (b .count) && leb (b .count) 64 ≡ true = ap₂ _&&_ (le-leb _ _ (is .some-vertex)) (le-leb _ _ (is .well-formed .few-vertices)) in
+    let limits : leb 1 (b .count) && leb (b .count) mostVertices ≡ true = ap₂ _&&_ (le-leb _ _ (is .some-vertex)) (le-leb _ _ (is .well-formed .few-vertices)) in
     ap (λ x. andThen (outcome (cond x none (some (Value 0))) (record { count = b .count; arcs = []; sets = [] })) (items 0 xs)) limits
     ∙ good-items (record { count = b .count; arcs = []; sets = [] }) 0 xs
     (subst (All (IsArc (b .count))) (sym same) (is .well-formed .arcs-proper)) (subst PairsOnce (sym same) (is .well-formed .pairs-once))

@@ -13,7 +13,7 @@ abbrev pub verdictOf : Reading → Verdict
 verdictOf (accepted b) = Good
 verdictOf (refused x) = Refused x
 
--- whether item i of n is still to be withItem
+-- whether item i of n is still to be entered
 abbrev pub goesOn : Verdict → ℕ → ℕ → Bool
 goesOn Good i n = ltb i n
 goesOn (Refused x) i n = false

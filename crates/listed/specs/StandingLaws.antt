@@ -19,7 +19,7 @@ use Rattle.book.specs.BookLaws.{is-arc, arc-well-formed}
 use Rattle.book.specs.Reading.{Reading, accepted, refused, andThen, outcome}
 use Rattle.book.specs.TableLaws.{entered-arc, marked→free, unmarked→given}
 use Rattle.book.specs.Tables.{IsGraph, entered, weightTable}
-use Rattle.limits.specs.Limits.{pairs, noArc}
+use Rattle.limits.specs.Limits.{pairs, noArc, mostVertices}
 use Rattle.planner.specs.declared.Outcome.{Outcome}
 use Rattle.planner.specs.Planning.{PlanningOf}
 use Rattle.listed.specs.declared.Arc.{Arc as Item}
@@ -35,7 +35,7 @@ not-refused x e = let z : _≡_ {A = ℕ} 0 1 = cc in omega arith
 abbrev empty : ℕ → Book
 empty n = record { count = n; arcs = []; sets = [] }
 
-empty-well-formed : (n : ℕ) → 1 ≤ n → n ≤ 64 → WellFormed (empty n)
+empty-well-formed : (n : ℕ) → 1 ≤ n → n ≤ mostVertices → WellFormed (empty n)
 unfolding allPaths
 empty-well-formed n low high =
     record { few-vertices = high; counted = λ _. low; arcs-proper = tt; pairs-once = tt; few-sets = omega arith; few-paths = omega arith; paths-proper = tt }
@@ -45,11 +45,11 @@ unfolding entered
 no-arcs = refl
 
 counted-table : (n : ℕ) (t : List ℕ) → t ≡ replicate pairs noArc → Table n (counted n) t
-counted-table n t blank = go (leb 1 n && leb n 64) refl
+counted-table n t blank = go (leb 1 n && leb n mostVertices) refl
   where
-    go : (x : Bool) → leb 1 n && leb n 64 ≡ x → Table n (outcome (cond x none (some (Value 0))) (empty n)) t
+    go : (x : Bool) → leb 1 n && leb n mostVertices ≡ x → Table n (outcome (cond x none (some (Value 0))) (empty n)) t
     go true e =
-        let limits = and-true (leb 1 n) (leb n 64) e in
+        let limits = and-true (leb 1 n) (leb n mostVertices) e in
         record { well = empty-well-formed n (leb-true _ _ (limits .0)) (leb-true _ _ (limits .1)); vertices-are = refl; weights-are = blank ∙ sym no-arcs }
     go false e = tt
 
@@ -57,13 +57,13 @@ abbrev counted-by : ℕ → Bool → Verdict
 counted-by n x = verdictOf (outcome (cond x none (some (Value 0))) (empty n))
 
 pub no-vertex : (n : ℕ) → n < 1 → Refused (Value 0) ≡ verdictOf (counted n)
-no-vertex n low = ap (λ x. counted-by n (x && leb n 64)) (sym (lt-leb 1 n low))
+no-vertex n low = ap (λ x. counted-by n (x && leb n mostVertices)) (sym (lt-leb 1 n low))
 
-pub many-vertices : (n : ℕ) → 1 ≤ n → 64 < n → Refused (Value 0) ≡ verdictOf (counted n)
-many-vertices n low high = ap₂ (λ x y. counted-by n (x && y)) (sym (le-leb 1 n low)) (sym (lt-leb n 64 high))
+pub many-vertices : (n : ℕ) → 1 ≤ n → mostVertices < n → Refused (Value 0) ≡ verdictOf (counted n)
+many-vertices n low high = ap₂ (λ x y. counted-by n (x && y)) (sym (le-leb 1 n low)) (sym (lt-leb n mostVertices high))
 
-pub few-vertices : (n : ℕ) → 1 ≤ n → n ≤ 64 → Good ≡ verdictOf (counted n)
-few-vertices n low high = ap₂ (λ x y. counted-by n (x && y)) (sym (le-leb 1 n low)) (sym (le-leb n 64 high))
+pub few-vertices : (n : ℕ) → 1 ≤ n → n ≤ mostVertices → Good ≡ verdictOf (counted n)
+few-vertices n low high = ap₂ (λ x y. counted-by n (x && y)) (sym (le-leb 1 n low)) (sym (le-leb n mostVertices high))
 
 -- ---- one item
 module _ (n : ℕ) (b : Book) (t : List ℕ) (h : IsGraph b n t) (i : ℕ) (a : Arc) where
@@ -79,16 +79,16 @@ module _ (n : ℕ) (b : Book) (t : List ℕ) (h : IsGraph b n t) (i : ℕ) (a : 
     within : IsArc n a
     within = is-arc n a p
 
-    few : n ≤ 64
+    few : n ≤ mostVertices
     few = omega (arith, h .vertices-are, h .well .few-vertices)
 
-    tail-fits : a .tail < 64
+    tail-fits : a .tail < mostVertices
     tail-fits = omega (arith, within .tail-below, few)
 
-    head-fits : a .head < 64
+    head-fits : a .head < mostVertices
     head-fits = omega (arith, within .head-below, few)
 
-    -- an arc that is proper is withItem by whether its pair has been given
+    -- an arc that is proper is entered or not by whether its pair has been given
     proper-item : (v : Verdict) (t′ : List ℕ) (y : Bool) → given (b .arcs) (a .tail) (a .head) ≡ y
         → Stands n (outcome (cond (not y) none (some (Repeated i))) (added b a)) v t′ → Stands n (withItem b i a) v t′
     proper-item v t′ y e s =
@@ -96,14 +96,14 @@ module _ (n : ℕ) (b : Book) (t : List ℕ) (h : IsGraph b n t) (i : ℕ) (a : 
         (sym (proper-is true p))
         (subst (λ x. Stands n (outcome (cond (not x) none (some (Repeated i))) (added b a)) v t′) (sym e) s)
 
-    pub repeated : (getD t (a .tail * 64 + a .head) 0 ≡ noArc → ⊥) → Stands n (withItem b i a) (Refused (Repeated i)) t
+    pub repeated : (getD t (a .tail * mostVertices + a .head) 0 ≡ noArc → ⊥) → Stands n (withItem b i a) (Refused (Repeated i)) t
     repeated ne =
-        let seen = unmarked→given b (h .well) _ _ tail-fits head-fits (λ e. ne (ap (λ l. getD l (a .tail * 64 + a .head) 0) (h .weights-are) ∙ e)) in
+        let seen = unmarked→given b (h .well) _ _ tail-fits head-fits (λ e. ne (ap (λ l. getD l (a .tail * mostVertices + a .head) 0) (h .weights-are) ∙ e)) in
         proper-item (Refused (Repeated i)) t true seen (record { verdict-is = refl; table = tt })
 
-    pub added-stands : getD t (a .tail * 64 + a .head) 0 ≡ noArc → Stands n (withItem b i a) Good (set t (a .tail * 64 + a .head) (a .weight))
+    pub added-stands : getD t (a .tail * mostVertices + a .head) 0 ≡ noArc → Stands n (withItem b i a) Good (set t (a .tail * mostVertices + a .head) (a .weight))
     added-stands e =
-        let new = marked→free b (h .well) _ _ tail-fits head-fits (ap (λ l. getD l (a .tail * 64 + a .head) 0) (sym (h .weights-are)) ∙ e) in
+        let new = marked→free b (h .well) _ _ tail-fits head-fits (ap (λ l. getD l (a .tail * mostVertices + a .head) 0) (sym (h .weights-are)) ∙ e) in
         proper-item Good _ false new
         (record {
           verdict-is = refl;
@@ -111,7 +111,7 @@ module _ (n : ℕ) (b : Book) (t : List ℕ) (h : IsGraph b n t) (i : ℕ) (a : 
               record {
                 well = arc-well-formed a b (h .well) (proper-is true p) new;
                 vertices-are = h .vertices-are;
-                weights-are = ap (λ l. set l (a .tail * 64 + a .head) (a .weight)) (h .weights-are) ∙ sym (entered-arc (replicate pairs noArc) (b .arcs) a);
+                weights-are = ap (λ l. set l (a .tail * mostVertices + a .head) (a .weight)) (h .weights-are) ∙ sym (entered-arc (replicate pairs noArc) (b .arcs) a);
               };
         })
 
@@ -130,14 +130,14 @@ pub going-first : (n : ℕ) (xs : List Item) (v : Verdict) (t : List ℕ) → v 
 going-first n xs v t is blank =
     record { so-far = counted n; stands = record { verdict-is = is; table = counted-table n t blank }; rest-is = refl }
 
--- an item is withItem, and then those after it
+-- an item is entered, and then those after it
 then-items : (x : Reading) (i : ℕ) (a : Item) (xs : List Item)
     → andThen (andThen x (λ b. withItem b i (arcOf a))) (items (suc i) xs) ≡ andThen x (items i (a ∷ xs))
 unfolding items
 then-items (accepted b) i a xs = refl
 then-items (refused x) i a xs = refl
 
--- while items are to be withItem, those so far are a book's
+-- while items are to be entered, those so far are a book's
 pub going-book : (n : ℕ) (xs : List Item) (i : ℕ) (v : Verdict) (t : List ℕ) (m : ℕ) → goesOn v i m ≡ true → Going n xs i v t → (b : Book) × IsGraph b n t
 going-book n xs i v t m on g = go (g .so-far) v on (g .stands)
   where

@@ -60,7 +60,7 @@ fn enter(vertices: usize, i: usize, arc: Arc, weights: &mut [u32; PAIRS]) -> Ver
     Verdict::Good
 }
 
-// Whether item i of n is still to be withItem.
+// Whether item i of n is still to be entered.
 fn more(verdict: Verdict, i: usize, n: usize) -> bool
     ensures { λ r. ⌜ r ≡ goesOn verdict i n ⌝ }
 {

@@ -14,7 +14,7 @@ use Rattle.automaton.specs.Built.{Built}
 use Rattle.walks.specs.Weights.{Weights}
 use Rattle.distances.specs.Pack.{hopsLimit}
 use Rattle.automaton.specs.Count.{mostStates}
-use Rattle.limits.specs.Limits.{heaviest}
+use Rattle.limits.specs.Limits.{heaviest, mostVertices}
 use Rattle.routes.specs.Product.{arcAt, stepTo, isOpen, stateEdges}
 use Rattle.routes.specs.ProductLaws.{stands-below, open-step, step-weight, step-below}
 use Rattle.routes.specs.Targets.{targets, length-targets, targets-are}
@@ -23,12 +23,12 @@ use Rattle.routes.specs.Route.{Guided, guided}
 
 -- The tables have a row for state q, with the weights of arcs at its vertices below n.
 pub record Row (n : ℕ) (weights steps blockeds latests : List ℕ) (q : ℕ) : Type 0 where
-  pub few-vertices : n ≤ 64
+  pub few-vertices : n ≤ mostVertices
   pub few-states : q < mostStates
-  pub steps-row : q * 64 + 64 ≤ length steps
+  pub steps-row : q * mostVertices + mostVertices ≤ length steps
   pub blockeds-row : q < length blockeds
   pub latests-row : q < length latests
-  pub latest-below : getD latests q 0 < 64
+  pub latest-below : getD latests q 0 < mostVertices
   pub light : (v : ℕ) → v < n → isOpen weights steps blockeds latests q v ≡ true → arcAt weights steps blockeds latests q v ≤ heaviest
 
 -- They have one for each of m states, and steps lead to these.

@@ -97,6 +97,6 @@ pub record Asked (weights : List ℕ) (vertices : ℕ) (paths : List ℕ) (count
   pub area-room : longest ≤ length walk
 
 -- What it answers, for each graph and forbidden set that weights and bytes stand for.
-abbrev pub Answered : List ℕ → ℕ → List ℕ → ℕ → ℕ → ℕ → List ℕ → Found → List ℕ → Type 0
-Answered weights vertices paths count start end old r new =
+abbrev pub SearchedAll : List ℕ → ℕ → List ℕ → ℕ → ℕ → ℕ → List ℕ → Found → List ℕ → Type 0
+SearchedAll weights vertices paths count start end old r new =
     (g : Graph) (F : List (List ℕ)) → g .count ≡ vertices → Weights g weights → Spells paths count F → Bounded vertices F → Searched g F start end old r new

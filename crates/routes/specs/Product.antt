@@ -12,17 +12,17 @@ use Rattle.distances.specs.Edge.{Edge, _∈_}
 use Rattle.distances.specs.Pack.{pack}
 use Rattle.automaton.specs.Automaton.{go}
 use Rattle.automaton.specs.Built.{bit}
-use Rattle.limits.specs.Limits.{noArc}
+use Rattle.limits.specs.Limits.{noArc, mostVertices}
 
 -- The tables: the weights of the arcs, the steps, the blocked vertices and the latest vertex of the states.
 module _ (weights steps blockeds latests : List ℕ) where
   -- The weight of the arc from the vertex of state q to v, or the mark of none.
   abbrev pub arcAt : ℕ → ℕ → ℕ
-  arcAt q v = getD weights (getD latests q 0 * 64 + v) 0
+  arcAt q v = getD weights (getD latests q 0 * mostVertices + v) 0
 
   -- The state after v.
   abbrev pub stepTo : ℕ → ℕ → ℕ
-  stepTo q v = getD steps (q * 64 + v) 0
+  stepTo q v = getD steps (q * mostVertices + v) 0
 
   -- There is an arc to v, and v is not blocked.
   abbrev pub isOpen : ℕ → ℕ → Bool

@@ -7,6 +7,7 @@ use native.Mathlib.Omega.{arith}
 use native.Mathlib.Decide.{decLt}
 use lib.ListN.{length, take, replicate, length-replicate, getD-replicate, List·getD-eq-default}
 use lib.Seq.{length-take-le, getD-take}
+use Rattle.limits.specs.Limits.{mostVertices}
 use Rattle.distances.specs.Edge.{edges, Within}
 use Rattle.distances.specs.Table.{at, inf, passes}
 use Rattle.distances.specs.Ready.{Ready, ready-head}
@@ -32,10 +33,10 @@ pub record Scratch (tails heads costs latests first next seen table : List ℕ) 
 
 -- EdgeRoom for the edges from m states, and blank tables for as many.
 pub record EdgeRoom (m : ℕ) (tails heads costs first next seen : List ℕ) : Type 0 where
-  pub tails-room : m * 64 ≤ length tails
-  pub heads-room : m * 64 ≤ length heads
-  pub costs-room : m * 64 ≤ length costs
-  pub next-room : m * 64 ≤ length next
+  pub tails-room : m * mostVertices ≤ length tails
+  pub heads-room : m * mostVertices ≤ length heads
+  pub costs-room : m * mostVertices ≤ length costs
+  pub next-room : m * mostVertices ≤ length next
   pub first-room : m ≤ length first
   pub seen-room : m ≤ length seen
   pub first-blank : (h : ℕ) → at first h ≡ 0
@@ -107,7 +108,7 @@ module _ {n m : ℕ} {weights steps blockeds latests : List ℕ} (f : Fits n m w
       go (suc m) f = f .rows m (omega arith) .latests-row
 
   -- The columns of the product's edges, cut to their number, with blank tables.
-  pub columns-scratch : {tails heads costs first next seen table : List ℕ} {k : ℕ} → m ≤ mostStates → length table ≡ m → k ≤ m * 64
+  pub columns-scratch : {tails heads costs first next seen table : List ℕ} {k : ℕ} → m ≤ mostStates → length table ≡ m → k ≤ m * mostVertices
       → EdgeRoom m tails heads costs first next seen → Columns tails heads costs k (stateEdges weights steps blockeds latests n m)
       → Scratch (take k tails) (take k heads) (take k costs) latests (take m first) (take k next) (take m seen) table
   columns-scratch {tails} {heads} {costs} {first} {next} {seen} {table} {k} small size few r c =

@@ -5,7 +5,7 @@ use mathlib.Core.List.{List, [], _∷_, map}
 use lib.Dec.{leb}
 use lib.ListN.{getD, take, drop}
 use Rattle.lists.specs.Test.{all}
-use Rattle.limits.specs.Limits.{mostPaths, entrySize, areaSize}
+use Rattle.limits.specs.Limits.{mostPaths, entrySize, areaSize, longestPath}
 use Rattle.walks.specs.Avoid.{same}
 use Rattle.book.specs.Book.{isPath}
 use Rattle.book.specs.Tables.{padded, entries}
@@ -30,7 +30,7 @@ spelled count area = map pathOf (blocks count area)
 
 -- An entry that spells a path that the book's rules take.
 abbrev pub isEntry : ℕ → List ℕ → Bool
-isEntry vertices e = leb (getD e 0 0) 8 && isPath vertices (pathOf e)
+isEntry vertices e = leb (getD e 0 0) longestPath && isPath vertices (pathOf e)
 
 -- 9: at most 256 paths, each by the book's rules, none repeated, and every unused byte 0.
 abbrev pub valid : ℕ → List ℕ → ℕ → Bool

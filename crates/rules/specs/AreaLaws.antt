@@ -7,7 +7,7 @@ use native.Mathlib.Nat.{add-zero, zero-add}
 use native.Mathlib.Omega.{arith}
 use lib.ListN.{length, getD, take, drop, replicate, length-append, length-replicate, length-drop, replicate-append-replicate}
 use lib.Seq.{paste, slice, take-at, drop-at, take-append-seam, drop-append-add, drop-drop, take-add, take-take, getD-take, getD-drop, length-take-le}
-use Rattle.limits.specs.Limits.{entrySize}
+use Rattle.limits.specs.Limits.{entrySize, longestPath}
 use Rattle.book.specs.Book.{All}
 use Rattle.book.specs.Tables.{padded, entry, entries}
 use Rattle.book.specs.EntryLaws.{Short, length-entry}
@@ -71,17 +71,17 @@ module _ (area : List ℕ) (at : ℕ) where
   pub length-byte : getD (take entrySize (drop at area)) 0 0 ≡ getD area at 0
   length-byte = part-at area at 9 0 (omega arith) ∙ ap (λ i. getD area i 0) (add-zero at)
 
-  vertices-of : (l : List ℕ) → drop 1 (take entrySize l) ≡ take 8 (drop 1 l)
+  vertices-of : (l : List ℕ) → drop 1 (take entrySize l) ≡ take longestPath (drop 1 l)
   vertices-of [] = refl
   vertices-of (x ∷ l) = refl
 
-  pub path-part : (n : ℕ) → getD area at 0 ≡ n → n ≤ 8 → pathOf (take entrySize (drop at area)) ≡ take n (drop (at + 1) area)
+  pub path-part : (n : ℕ) → getD area at 0 ≡ n → n ≤ longestPath → pathOf (take entrySize (drop at area)) ≡ take n (drop (at + 1) area)
   path-part n e short =
       ap₂ take (length-byte ∙ e) (vertices-of (drop at area))
-      ∙ take-take n 8 (drop 1 (drop at area)) short
+      ∙ take-take n longestPath (drop 1 (drop at area)) short
       ∙ ap (take n) (drop-drop 1 at area)
 
-  pub path-size : at + entrySize ≤ length area → getD area at 0 ≤ 8 → length (pathOf (take entrySize (drop at area))) ≡ getD area at 0
+  pub path-size : at + entrySize ≤ length area → getD area at 0 ≤ longestPath → length (pathOf (take entrySize (drop at area))) ≡ getD area at 0
   path-size within short = ap length (path-part (getD area at 0) refl short) ∙ part-length area (at + 1) (getD area at 0) (omega arith)
 
 -- ---- the entries of an area

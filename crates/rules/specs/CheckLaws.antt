@@ -11,6 +11,7 @@ use borrow.Author.Tests.{eqb-true, eq-eqb, leb-true, le-leb}
 use lib.Dec.{eqb, leb}
 use lib.ListN.{length, take, drop, length-append, take-append-drop}
 use lib.Seq.{slice, take-at, drop-at}
+use Rattle.limits.specs.Limits.{longestPath}
 use Rattle.lists.specs.Test.{T→true, true→T, any→some, some→any, and-true}
 use Rattle.walks.specs.Avoid.{Occurs, Avoids, same}
 use Rattle.rules.specs.declared.Checked.the-variants.{Clear, Occurs as Occurs-at}
@@ -127,7 +128,7 @@ module _ (F : List (List ℕ)) (w : List ℕ) where
           refuted (someEnds F w e n)
           (λ h. let (r, m, size, there) = some-ends e n h in avoids r m (ends→occurs w r e within there))
 
-  module _ (sizes : (r : List ℕ) → List·Memᴰ r F → (2 ≤ length r) × (length r ≤ 8)) where
+  module _ (sizes : (r : List ℕ) → List·Memᴰ r F → (2 ≤ length r) × (length r ≤ longestPath)) where
     -- ... and one that is clear avoids it, whose paths have 2 to 8 vertices.
     pub clear→Avoids : occurrence F w ≡ Clear → Avoids F w
     clear→Avoids clear r m o =

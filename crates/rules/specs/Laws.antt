@@ -20,7 +20,7 @@ use Rattle.rules.specs.declared.Checked.{Checked}
 use Rattle.rules.specs.declared.Checked.the-variants.{Clear}
 use Rattle.rules.specs.Binding.{applies, applied, known, once}
 use Rattle.rules.specs.Area.{written, spelled, valid}
-use Rattle.limits.specs.Limits.{areaSize}
+use Rattle.limits.specs.Limits.{areaSize, longestPath}
 use Rattle.rules.specs.Checking.{checkable, occurrence}
 use Rattle.rules.specs.Operations.{Binding, outcome, bindTests, bindingOf, binding, areaAfter, verdict, checkTests, checkingOf, checking}
 use Rattle.rules.specs.Sets.{listed→distinct, distinct→listed}
@@ -144,7 +144,7 @@ module _ (s : List ℕ) (flags : ℕ) (area : List ℕ) where
 
 -- ---- the check
 -- the paths of a valid area have 2 to 8 vertices
-pub sizes : (v : ℕ) (F : List (List ℕ)) → All (IsPath v) F → (r : List ℕ) → List·Memᴰ r F → (2 ≤ length r) × (length r ≤ 8)
+pub sizes : (v : ℕ) (F : List (List ℕ)) → All (IsPath v) F → (r : List ℕ) → List·Memᴰ r F → (2 ≤ length r) × (length r ≤ longestPath)
 sizes v [] h r m = absurd (List·Memᴰ·not-nil m)
 sizes v (p ∷ F) h r m =
     ⊎-elim (λ here. (rw here (h .0 .two), rw here (h .0 .eight))) (sizes v F (h .1) r) (List·Memᴰ·cases-cons m)

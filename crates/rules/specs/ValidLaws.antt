@@ -15,30 +15,30 @@ use Rattle.book.specs.BookLaws.{isPath→IsPath, IsPath→isPath, all-map}
 use Rattle.book.specs.Tables.{entry, entries}
 use Rattle.rules.specs.Binding.{once}
 use Rattle.rules.specs.Area.{written, blocks, pathOf, spelled, isEntry, valid}
-use Rattle.limits.specs.Limits.{areaSize}
+use Rattle.limits.specs.Limits.{areaSize, longestPath, mostPaths}
 use Rattle.book.specs.EntryLaws.{Short, length-padded, length-entries}
 use Rattle.rules.specs.AreaLaws.{path-of-entry, blocks-entries, spelled-entries}
 use Rattle.rules.specs.Sets.{same-true, true-same}
 
 -- What a valid area holds: at most 256 different paths by the book's rules, and nothing else.
 pub record Valid (vertices : ℕ) (area : List ℕ) (count : ℕ) : Type 0 where
-  pub few : count ≤ 256
+  pub few : count ≤ mostPaths
   pub paths : All (IsPath vertices) (spelled count area)
   pub different : once (spelled count area) ≡ true
   pub bytes : take areaSize area ≡ written (spelled count area)
 
 -- ---- entries
-pub entry-fits : (v : ℕ) (e : List ℕ) → isEntry v e ≡ true → getD e 0 0 ≤ 8
-entry-fits v e h = leb-true _ _ (and-true (leb (getD e 0 0) 8) _ h .0)
+pub entry-fits : (v : ℕ) (e : List ℕ) → isEntry v e ≡ true → getD e 0 0 ≤ longestPath
+entry-fits v e h = leb-true _ _ (and-true (leb (getD e 0 0) longestPath) _ h .0)
 
 entry-path : (v : ℕ) (e : List ℕ) → isEntry v e ≡ true → IsPath v (pathOf e)
-entry-path v e h = isPath→IsPath v (pathOf e) (and-true (leb (getD e 0 0) 8) _ h .1)
+entry-path v e h = isPath→IsPath v (pathOf e) (and-true (leb (getD e 0 0) longestPath) _ h .1)
 
 path-entry : (v : ℕ) (p : List ℕ) → IsPath v p → isEntry v (entry p) ≡ true
-path-entry v p h = ap (λ q. leb (length p) 8 && isPath v q) (path-of-entry p) ∙ rw (le-leb _ _ (h .eight), IsPath→isPath v p h)
+path-entry v p h = ap (λ q. leb (length p) longestPath && isPath v q) (path-of-entry p) ∙ rw (le-leb _ _ (h .eight), IsPath→isPath v p h)
 
 module _ (v : ℕ) where
-  pub entries-fit : (es : List (List ℕ)) → all (isEntry v) es ≡ true → All (λ e. getD e 0 0 ≤ 8) es
+  pub entries-fit : (es : List (List ℕ)) → all (isEntry v) es ≡ true → All (λ e. getD e 0 0 ≤ longestPath) es
   entries-fit [] h = tt
   entries-fit (e ∷ es) h =
       let both = and-true (isEntry v e) (all (isEntry v) es) h in
@@ -57,14 +57,14 @@ module _ (v : ℕ) where
 -- ---- the four tests
 module _ (v : ℕ) (area : List ℕ) (count : ℕ) where
   four : valid v area count ≡ true
-      → (count ≤ 256) × (all (isEntry v) (blocks count area) ≡ true) × (once (spelled count area) ≡ true) × (take areaSize area ≡ written (spelled count area))
+      → (count ≤ mostPaths) × (all (isEntry v) (blocks count area) ≡ true) × (once (spelled count area) ≡ true) × (take areaSize area ≡ written (spelled count area))
   four h =
-      let (abc, d) = and-true (leb count 256 && all (isEntry v) (blocks count area) && once (spelled count area)) (same (take areaSize area) (written (spelled count area))) h in
-      let (ab, c) = and-true (leb count 256 && all (isEntry v) (blocks count area)) (once (spelled count area)) abc in
-      let (a, b) = and-true (leb count 256) (all (isEntry v) (blocks count area)) ab in
+      let (abc, d) = and-true (leb count mostPaths && all (isEntry v) (blocks count area) && once (spelled count area)) (same (take areaSize area) (written (spelled count area))) h in
+      let (ab, c) = and-true (leb count mostPaths && all (isEntry v) (blocks count area)) (once (spelled count area)) abc in
+      let (a, b) = and-true (leb count mostPaths) (all (isEntry v) (blocks count area)) ab in
       (leb-true _ _ a, b, c, same-true _ _ d)
 
-  pub valid-fits : valid v area count ≡ true → (count ≤ 256) × All (λ e. getD e 0 0 ≤ 8) (blocks count area)
+  pub valid-fits : valid v area count ≡ true → (count ≤ mostPaths) × All (λ e. getD e 0 0 ≤ longestPath) (blocks count area)
   valid-fits h =
       let (few, every, _, _) = four h in
       (few, entries-fit v (blocks count area) every)
@@ -75,7 +75,7 @@ module _ (v : ℕ) (area : List ℕ) (count : ℕ) where
       record { few = few; paths = paths-of v (blocks count area) every; different = different; bytes = bytes }
 
 -- An area written with different paths by the book's rules is valid, and spells them.
-module _ (v : ℕ) (F : List (List ℕ)) (few : length F ≤ 256) (proper : All (IsPath v) F) (different : once F ≡ true) (rest : List ℕ) where
+module _ (v : ℕ) (F : List (List ℕ)) (few : length F ≤ mostPaths) (proper : All (IsPath v) F) (different : once F ≡ true) (rest : List ℕ) where
   short : All Short F
   short = all-map (λ p h. h .eight) F proper
 
@@ -96,7 +96,7 @@ module _ (v : ℕ) (F : List (List ℕ)) (few : length F ≤ 256) (proper : All 
       ap (λ t. all (isEntry v) (blocks (length F) t)) (append-assoc (entries F) _ rest) ∙ ap (all (isEntry v)) (blocks-entries F after short) ∙ all-entries v F proper in
       let front : take areaSize (written F ++ rest) ≡ written (spelled (length F) (written F ++ rest)) =
       take-at (written F) rest areaSize written-length ∙ ap written (sym written-spells) in
-      four-hold (leb (length F) 256) _ _ _ (le-leb _ _ few) every (ap once written-spells ∙ different) (true-same _ _ front)
+      four-hold (leb (length F) mostPaths) _ _ _ (le-leb _ _ few) every (ap once written-spells ∙ different) (true-same _ _ front)
     where
       four-hold : (a b c d : Bool) → a ≡ true → b ≡ true → c ≡ true → d ≡ true → a && b && c && d ≡ true
       four-hold a b c d p q r s = rw (p, q, r, s)

@@ -10,6 +10,7 @@ ghost use Rattle.rules.specs.Area.{isEntry as Area·isEntry, valid as Ar
 use book::is_path;
 use limits::AREA;
 use limits::ENTRY;
+use limits::LONGEST_PATH;
 use limits::MOST_PATHS;
 use lists::copy;
 use lists::wide;
@@ -52,7 +53,7 @@ fn is_entry(area: &[u8], at: usize, vertices: usize) -> bool
     ensures { λ r. ⌜ r ≡ Area·isEntry vertices (take entrySize (drop at (now (area .entry)))) ⌝ }
 {
     let n = wide(area[at]);
-    if 8 < n {
+    if LONGEST_PATH < n {
         return false;
     }
     is_path(area, at + 1, at + 1 + n, vertices)

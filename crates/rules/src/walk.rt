@@ -10,6 +10,7 @@ ghost use Rattle.rules.specs.Checking.{occurrence, checkable};
 use crate::Checked;
 use limits::ENTRY;
 use limits::LONGEST;
+use limits::LONGEST_PATH;
 use limits::MOST_VERTICES;
 use limits::NO_ARC;
 use limits::PAIRS;
@@ -55,7 +56,7 @@ pub fn first_occurrence(area: &[u8], count: usize, walk: &[u8]) -> Checked
     let mut end = 1;
     'ends: while end <= walk.len() {
         let mut n = 2;
-        while n <= 8 && n <= end {
+        while n <= LONGEST_PATH && n <= end {
             let place = end - n;
             let mut k = 0;
             'paths: while k < count {

@@ -7,6 +7,7 @@ use native.Mathlib.Omega.{arith}
 use native.Mathlib.Decide.{decLt}
 use lib.ListN.{length, take, drop, replicate, length-replicate, getD-replicate, List·getD-eq-default}
 use lib.Seq.{length-take-le, length-front, take-at}
+use Rattle.limits.specs.Limits.{mostVertices}
 use Rattle.walks.specs.Graph.{Graph}
 use Rattle.walks.specs.Weights.{Weights}
 use Rattle.distances.specs.Table.{at, inf, passes}
@@ -31,7 +32,7 @@ pub record Work (most : ℕ) (steps blockeds latests tails heads costs first nex
 
 -- Arrays for k states, as they are made.
 pub blank-work : (most k : ℕ) → most ≤ k
-    → Work most (replicate (k * 64) 0) (replicate k 0) (replicate k 0) (replicate (k * 64) 0) (replicate (k * 64) 0) (replicate (k * 64) 0) (replicate k 0) (replicate (k * 64) 0) (replicate k inf) (replicate k 0)
+    → Work most (replicate (k * mostVertices) 0) (replicate k 0) (replicate k 0) (replicate (k * mostVertices) 0) (replicate (k * mostVertices) 0) (replicate (k * mostVertices) 0) (replicate k 0) (replicate (k * mostVertices) 0) (replicate k inf) (replicate k 0)
 blank-work most k h = record {
   automaton = record { of-steps = long; of-blockeds = short 0; of-latests = short 0; of-fails = omega (arith, long) };
   edges = record {
@@ -47,7 +48,7 @@ blank-work most k h = record {
   entries = short 0;
 }
   where
-    long : most * 64 ≤ length {A = ℕ} (replicate (k * 64) 0)
+    long : most * mostVertices ≤ length {A = ℕ} (replicate (k * mostVertices) 0)
     long = rw length-replicate (omega arith)
 
     short : (x : ℕ) → most ≤ length (replicate k x)

@@ -8,7 +8,7 @@ ghost use Rattle.walks.specs.Weights.{Weights};
 ghost use Rattle.automaton.specs.Area.{Given};
 ghost use Rattle.automaton.specs.Count.{statesOf, mostStates};
 ghost use Rattle.limits.specs.Limits.{longest};
-ghost use Rattle.routes.specs.Plan.{Asked, Answered};
+ghost use Rattle.routes.specs.Plan.{Asked, SearchedAll};
 ghost use Rattle.search.specs.Work.{usualStates, Work};
 use automaton::PREFIXES;
 use automaton::STATES;
@@ -50,7 +50,7 @@ fn search_in(
 ) -> Found
     requires { ⌜ Asked (now weights) vertices (now paths) count start (now walk) ⌝ }
     requires { ⌜ Work (statesOf vertices count) (now steps) (now blocked) (now latest) (now tails) (now heads) (now costs) (now first) (now next) (now seen) (now table) ⌝ }
-    ensures { λ r. ⌜ Answered (now (weights .entry)) vertices (now (paths .entry)) count start end (now (walk .entry)) r (now (walk .exit)) ⌝ }
+    ensures { λ r. ⌜ SearchedAll (now (weights .entry)) vertices (now (paths .entry)) count start end (now (walk .entry)) r (now (walk .exit)) ⌝ }
 {
     let states = build(paths, count, vertices, steps, blocked, latest, tails);
     distances_to(
@@ -92,7 +92,7 @@ fn usual_search(
 ) -> Found
     requires { ⌜ Asked (now weights) vertices (now paths) count start (now walk) ⌝ }
     requires { ⌜ statesOf vertices count ≤ usualStates ⌝ }
-    ensures { λ r. ⌜ Answered (now (weights .entry)) vertices (now (paths .entry)) count start end (now (walk .entry)) r (now (walk .exit)) ⌝ }
+    ensures { λ r. ⌜ SearchedAll (now (weights .entry)) vertices (now (paths .entry)) count start end (now (walk .entry)) r (now (walk .exit)) ⌝ }
 {
     let mut steps = [0u16; USUAL_STEPS];
     let mut blocked = [0u64; USUAL_STATES];
@@ -137,7 +137,7 @@ fn full_search(
 ) -> Found
     requires { ⌜ Asked (now weights) vertices (now paths) count start (now walk) ⌝ }
     requires { ⌜ statesOf vertices count ≤ mostStates ⌝ }
-    ensures { λ r. ⌜ Answered (now (weights .entry)) vertices (now (paths .entry)) count start end (now (walk .entry)) r (now (walk .exit)) ⌝ }
+    ensures { λ r. ⌜ SearchedAll (now (weights .entry)) vertices (now (paths .entry)) count start end (now (walk .entry)) r (now (walk .exit)) ⌝ }
 {
     let mut steps = [0u16; STEPS];
     let mut blocked = [0u64; STATES];
@@ -184,7 +184,7 @@ pub fn best_walk(
     requires { ⌜ Given (now paths) count vertices ⌝ }
     requires { ⌜ ((g : Graph) × (g .count ≡ vertices) × Weights g (now weights)) ⌝ }
     requires { ⌜ (start < vertices) × (longest ≤ length (now walk)) ⌝ }
-    ensures { λ r. ⌜ Answered (now (weights .entry)) vertices (now (paths .entry)) count start end (now (walk .entry)) r (now (walk .exit)) ⌝ }
+    ensures { λ r. ⌜ SearchedAll (now (weights .entry)) vertices (now (paths .entry)) count start end (now (walk .entry)) r (now (walk .exit)) ⌝ }
 {
     if vertices + count * PREFIXES <= USUAL_STATES {
         usual_search(weights, vertices, paths, count, start, end, walk)

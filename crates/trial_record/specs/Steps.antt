@@ -31,9 +31,9 @@ replanned r (Walk weight hops) = withPlan r 0 weight (hops + 1)
 replanned r Nothing = withPlan r 2 0 0
 
 -- A walk that was found has a length that the record holds.
-abbrev pub Short : Found → Type 0
-Short (Walk weight hops) = hops < longest
-Short Nothing = Unit
+abbrev pub Recordable : Found → Type 0
+Recordable (Walk weight hops) = hops < longest
+Recordable Nothing = Unit
 
 -- Passed: stage 1, passed becomes 1.
 abbrev pub passedOf : Record → Record
@@ -65,5 +65,5 @@ failedOf r =
       length = r .length;
     }
 
-pub short-walk : (f : Found) (weight hops : ℕ) → f ≡ Walk weight hops → Short f → hops < longest
-short-walk f weight hops e h = subst Short e h
+pub short-walk : (f : Found) (weight hops : ℕ) → f ≡ Walk weight hops → Recordable f → hops < longest
+short-walk f weight hops e h = subst Recordable e h

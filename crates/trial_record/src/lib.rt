@@ -2,7 +2,7 @@
 ghost use mathlib.Core.Path.{_≡_};
 ghost use Prim.Native.Nat.{_≤_, _<_};
 ghost use Rattle.limits.specs.Limits.{mostPaths};
-ghost use Rattle.trial_record.specs.Steps.{fresh, withPlan, Short, passedOf, failedOf};
+ghost use Rattle.trial_record.specs.Steps.{fresh, withPlan, Recordable, passedOf, failedOf};
 ghost use Rattle.trial_record.specs.Steps.{replanned as Steps·replanned};
 use routes::Found;
 
@@ -62,7 +62,7 @@ impl Record {
 
     // The plan anew.
     pub fn replanned(self, found: Found) -> Record
-        requires { ⌜ Short found ⌝ }
+        requires { ⌜ Recordable found ⌝ }
         ensures { λ r. ⌜ r ≡ Steps·replanned self found ⌝ }
     {
         match found {

@@ -18,7 +18,7 @@ use Rattle.rules.specs.Laws.{gathered-length, gathered-spells}
 use Rattle.routes.specs.declared.Found.{Found}
 use Rattle.routes.specs.Plan.{Searched}
 use Rattle.trial_record.specs.declared.Record.{Record}
-use Rattle.trial_record.specs.Steps.{fresh, replanned, Short}
+use Rattle.trial_record.specs.Steps.{fresh, replanned, Recordable}
 use Rattle.trial_rules.specs.Trials.{beginTests, beginRefusal}
 use Rattle.trial_rules.specs.Accepted.{begin-accepted}
 use Rattle.trials.specs.declared.Begun.{Begun}
@@ -48,7 +48,7 @@ module _ (b : Book) (flags start end : ℕ) (paths walk : List ℕ) where
           held (chosen-planner b w) (known-set flags b w) (a .start) (a .end) f
           (subst (λ G. Searched (graph b) G start end walk f new) (gathered-spells flags b w counted filled) found)
 
-      pub begun-short : Short f
+      pub begun-short : Recordable f
       begun-short = holds .short
 
       copied : paste paths 0 (drop 0 area) areaSize ≡ written (known flags (b .sets)) ++ drop areaSize paths

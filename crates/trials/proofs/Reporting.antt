@@ -31,7 +31,7 @@ use Rattle.trial_record.specs.declared.Record.{Record}
 use Rattle.trials.specs.declared.Reported.{Reported}
 use Rattle.judging.specs.declared.Judged.the-variants.{Standing, Refused}
 use Rattle.trial_rules.specs.Trials.{Report, passed, failed, State, ForbiddenSet, passedIn, stageOf, litresOf, lengthOf, step}
-use Rattle.trial_record.specs.Steps.{passedOf, failedOf, replanned, Short}
+use Rattle.trial_record.specs.Steps.{passedOf, failedOf, replanned, Recordable}
 use Rattle.trials.specs.Operations.{leaves, reportedAs, reportingOf}
 use Rattle.judging.specs.Judging.{stateOf, judgeTests, saidTests, reportTests, judgedAs}
 use Rattle.trials.specs.OperationLaws.{Passed, passed-tests}
@@ -162,7 +162,7 @@ module _ (b : Book) (w : WellFormed b) (r : Record) (paths walk p : List ℕ) (e
           let v = h .accepts .valid in
           held (chosen-planner b w) set′ (v .start) (v .end) f (subst (λ G. Searched (graph b) G (r .start) (r .end) walk f new) spelled′ found)
 
-      pub walk-short : Short f
+      pub walk-short : Recordable f
       walk-short = holds .short
 
       pub has-failed : leaves (Reported.Accepted (replanned (failedOf r) f)) paths′ new ≡ reportingOf (accepted b) r paths walk (failed p)

@@ -19,7 +19,7 @@ use Rattle.routes.specs.Plan.{Searched}
 use Rattle.limits.specs.Limits.{longest}
 use Rattle.trial_record.specs.declared.Record.{Record}
 use Rattle.trial_rules.specs.Trials.{ForbiddenSet, Plan, Planner, Begin, beginRefusal, stageOf, litresOf, lengthOf, overlaid}
-use Rattle.trial_record.specs.Steps.{withPlan, replanned, Short}
+use Rattle.trial_record.specs.Steps.{withPlan, replanned, Recordable}
 use Rattle.trial_rules.specs.Tests.{once→Distinct, forbidden-set}
 use Rattle.trial_rules.specs.Plans.{plan-best, plan-none}
 
@@ -58,7 +58,7 @@ withAnswer g r p = withPlan r (stageOf p) (litresOf g p) (lengthOf p)
 pub record Held (g : Graph) (p : Option (List ℕ)) (f : Found) (old new : List ℕ) : Type 0 where
   pub rec-is : (r : Record) → replanned r f ≡ withAnswer g r p
   pub area-is : new ≡ overlaid p old
-  pub short : Short f
+  pub short : Recordable f
 
 module _
     {g : Graph} {plan : Plan} (planner : Planner g plan) {F : List (List ℕ)} {s t : ℕ}

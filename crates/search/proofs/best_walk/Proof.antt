@@ -1,4 +1,4 @@
--- `search::work::best_walk` meets its contract: the states fit the tables that are chosen. Assumes nothing.
+-- `search::best_walk` meets its contract: the states fit the tables that are chosen. Assumes nothing.
 use native.Mathlib.Omega.{arith}
 use Rattle.automaton.specs.Count.{few-states}
 use Rattle.routes.specs.Plan.{Asked}

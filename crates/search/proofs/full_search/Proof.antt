@@ -1,4 +1,4 @@
--- `search::work::full_search` meets its contract: the arrays have room for all states. Assumes nothing.
+-- `search::full_search` meets its contract: the arrays have room for all states. Assumes nothing.
 use Rattle.automaton.specs.Count.{mostStates}
 use Rattle.search.specs.Work.{blank-work}
 use borrow.Author.Needs.{needs}

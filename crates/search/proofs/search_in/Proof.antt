@@ -1,4 +1,4 @@
--- `search::work::search_in` meets its contract: what was built and measured is what the search asks for. Assumes nothing.
+-- `search::search_in` meets its contract: what was built and measured is what the search asks for. Assumes nothing.
 use mathlib.Core.List.{List, _++_}
 use mathlib.Core.Path.{_≡_, sym, _∙_}
 use native.Mathlib.Omega.{arith}

@@ -1,4 +1,4 @@
--- `search::work::usual_search` meets its contract: the arrays have room for a usual number of states. Assumes nothing.
+-- `search::usual_search` meets its contract: the arrays have room for a usual number of states. Assumes nothing.
 use Rattle.search.specs.Work.{usualStates, blank-work}
 use borrow.Author.Needs.{needs}
 use Rattle.search.proofs.usual_search.Statement.{statement}

@@ -288,7 +288,7 @@ module _ {M : Type 1} (𝓤 : URA M) (H : Heap 𝓤) (A : Atoms 𝓤) (W : Given
           λ vs inv. (
             λ κ. tt,
             λ g₁. (
-              -- an item is to be withItem: it is in the list, `enter` has a book's table, and the invariant holds again with fewer items left
+              -- an item is to be entered: it is in the list, `enter` has a book's table, and the invariant holds again with fewer items left
               λ taken. (
                 offset-fits (vs .2) _ (good .1 .0) (goes-on (vs .1) _ _ (sym (g₁ .5) ∙ taken)),
                 (
@@ -317,7 +317,7 @@ module _ {M : Type 1} (𝓤 : URA M) (H : Heap 𝓤) (A : Atoms 𝓤) (W : Given
                   ),
                 ),
               ),
-              -- no item is to be withItem: the parameters are as they came, and the verdict is the list's
+              -- no item is to be entered: the parameters are as they came, and the verdict is the list's
               λ left. ((tt, (refl, (refl, tt))), going-last (a .0) (a .1 .0 .now) (vs .2) (vs .1) (vs .0) (sym (g₁ .5) ∙ left) inv),
             ),
           ),

@@ -1,4 +1,4 @@
--- `search::product::distances_over` meets its contract. Assumes nothing.
+-- `routes::product::distances_over` meets its contract. Assumes nothing.
 use mathlib.Core.Path.{sym, _∙_}
 use native.Mathlib.Omega.{arith}
 use Rattle.routes.specs.Scratch.{scratch-head, scratch-settle, scratch-passes}

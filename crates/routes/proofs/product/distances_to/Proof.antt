@@ -1,4 +1,4 @@
--- `search::product::distances_to` meets its contract. Assumes nothing.
+-- `routes::product::distances_to` meets its contract. Assumes nothing.
 use mathlib.Core.Path.{refl, ap, _∙_}
 use native.Mathlib.Omega.{arith}
 use lib.ListN.{length, length-take}

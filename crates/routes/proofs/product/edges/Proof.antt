@@ -1,4 +1,4 @@
--- `search::product::edges` meets its contract. The invariant: the columns have the edges from the states below q. Assumes nothing.
+-- `routes::product::edges` meets its contract. The invariant: the columns have the edges from the states below q. Assumes nothing.
 use Prim.Native.Nat.{_≤_, _*_, _-_}
 use mathlib.Core.Path.{_≡_, refl}
 use native.Mathlib.Omega.{arith}

@@ -1,4 +1,4 @@
--- `search::product::edges_from` meets its contract. The invariant is `Filling`: the edges over the vertices below v are appended. Assumes nothing.
+-- `routes::product::edges_from` meets its contract. The invariant is `Filling`: the edges over the vertices below v are appended. Assumes nothing.
 use Prim.Native.Nat.{_≤_, _-_}
 use mathlib.Core.Path.{_≡_, sym, _∙_}
 use mathlib.Core.Logic.{⊎-elim}

@@ -1,4 +1,4 @@
--- `search::product::is_open` meets its contract. Assumes nothing.
+-- `routes::product::is_open` meets its contract. Assumes nothing.
 use borrow.Author.Tests.{eq-eqb, ne-eqb}
 use Rattle.limits.specs.Limits.{noArc}
 use Rattle.routes.proofs.product.is_open.Statement.{statement}

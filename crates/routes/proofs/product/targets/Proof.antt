@@ -1,4 +1,4 @@
--- `search::product::targets` meets its contract. The invariant: the entries below q are written. Assumes nothing.
+-- `routes::product::targets` meets its contract. The invariant: the entries below q are written. Assumes nothing.
 use Prim.Native.Nat.{_≤_, _-_}
 use mathlib.Core.Path.{_≡_, refl, ap, _∙_}
 use mathlib.Core.Logic.{⊎-elim}

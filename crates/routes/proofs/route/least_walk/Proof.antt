@@ -1,4 +1,4 @@
--- `search::route::least_walk` meets its contract. Assumes nothing.
+-- `routes::route::least_walk` meets its contract. Assumes nothing.
 use native.Mathlib.Omega.{arith}
 use Rattle.routes.specs.Fits.{entry-near}
 use Rattle.routes.specs.Plan.{measured-guiding, measured-start, start-short, searched-none, searched-walk}

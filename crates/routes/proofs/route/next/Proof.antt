@@ -1,4 +1,4 @@
--- `search::route::next` meets its contract. Assumes nothing.
+-- `routes::route::next` meets its contract. Assumes nothing.
 use mathlib.Core.Path.{ap}
 use native.Mathlib.Omega.{arith}
 use lib.Count.{trailingZeros, trailing-le}

@@ -1,4 +1,4 @@
--- `search::route::usable` meets its contract. The invariant is `Choosing`: the word has the usable vertices below v. Assumes nothing.
+-- `routes::route::usable` meets its contract. The invariant is `Choosing`: the word has the usable vertices below v. Assumes nothing.
 use Prim.Native.Nat.{_≤_, _<_, _-_}
 use mathlib.Core.Path.{_≡_, sym, _∙_}
 use mathlib.Core.Logic.{⊎-elim}

@@ -1,4 +1,4 @@
--- `search::route::walk` meets its contract. The invariant is `Walking`: the first k vertices are written. Assumes nothing.
+-- `routes::route::walk` meets its contract. The invariant is `Walking`: the first k vertices are written. Assumes nothing.
 use Prim.Native.Nat.{ℕ, _+_, _-_, _%_, _≤_, _<_}
 use mathlib.Core.Path.{_≡_, refl, _∙_}
 use native.Mathlib.Omega.{arith}
