@@ -10,6 +10,8 @@ use Rattle.book.specs.declared.Refusal.{Refusal}
 use Rattle.book.specs.declared.Answer.{Answer}
 use Rattle.book.specs.declared.Answer.the-variants.{Read, Refused}
 use Rattle.book.specs.declared.Counts.{Counts}
+use Rattle.book.specs.declared.Verdict.{Verdict}
+use Rattle.book.specs.declared.Verdict.the-variants.{Good}
 use Rattle.book.specs.declared.Kind.{Kind}
 use Rattle.book.specs.declared.Kind.the-variants.{VertexCount, Path, Unknown}
 use Rattle.book.specs.Refusal.{Test, testAt, numbered, firstFailure, refusalBy}
@@ -129,10 +131,13 @@ addPath [] p = []
 addPath (s ∷ []) p = record { flags = s .flags; paths = s .paths ++ (p ∷ []) } ∷ []
 addPath (s ∷ (s′ ∷ ss)) p = s ∷ addPath (s′ ∷ ss) p
 
+abbrev pub addArc : Book → Arc → Book
+addArc b a = record { count = b .count; arcs = b .arcs ++ (a ∷ []); sets = b .sets }
+
 -- the book with the field at byte `at` added to it
 abbrev pub extended : Kind → List ℕ → Book → ℕ → Book
 extended VertexCount s b at = record { count = countAt s at; arcs = b .arcs; sets = b .sets }
-extended Kind.Arc s b at = record { count = b .count; arcs = b .arcs ++ (arcAt s at ∷ []); sets = b .sets }
+extended Kind.Arc s b at = addArc b (arcAt s at)
 extended Kind.RuleSet s b at = record { count = b .count; arcs = b .arcs; sets = b .sets ++ (record { flags = flagsAt s at; paths = [] } ∷ []) }
 extended Path s b at = record { count = b .count; arcs = b .arcs; sets = addPath (b .sets) (pathAt s at) }
 extended Unknown s b at = b
@@ -140,6 +145,19 @@ extended Unknown s b at = b
 abbrev pub outcome : Option Refusal → Book → Reading
 outcome none b = accepted b
 outcome (some r) b = refused r
+
+-- An arc after a book, whether it is a field's or an item's of a list: 4 and 5, told with its place.
+abbrev pub arcTests : Book → ℕ → Arc → List Test
+arcTests b at a =
+    testAt at 4 (properArc (b .count) a) ∷ testAt at 5 (not (given (b .arcs) (a .tail) (a .head))) ∷ []
+
+abbrev pub withArc : Book → ℕ → Arc → Reading
+withArc b at a = outcome (firstFailure (arcTests b at a)) (addArc b a)
+
+-- what a reading comes to
+abbrev pub verdictOf : Reading → Verdict
+verdictOf (accepted b) = Good
+verdictOf (refused r) = Verdict.Refused r
 
 -- a field of a known kind whose frame is whole
 abbrev pub taken : Kind → List ℕ → Book → ℕ → Reading

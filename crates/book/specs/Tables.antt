@@ -5,7 +5,9 @@ use mathlib.Core.List.{List, [], _∷_, _++_, map}
 use lib.ListN.{length, set, replicate}
 use Rattle.limits.specs.Limits.{mostVertices, pairs, mostSets, mostPaths, areaSize, noArc, longestPath}
 use Rattle.walks.specs.Graph.{Arc}
+use Rattle.book.specs.declared.Verdict.{Verdict}
 use Rattle.book.specs.Book.{RuleSet, Book, WellFormed, allPaths}
+use Rattle.book.specs.Reading.{verdictOf, withArc, kept}
 
 -- a list with zeros up to n elements
 abbrev pub padded : ℕ → List ℕ → List ℕ
@@ -65,6 +67,10 @@ pub record IsSets (b : Book) (paths : ℕ) (flags owners entries : List ℕ) : T
   pub flags-are : flags ≡ flagTable (b .sets)
   pub owners-are : owners ≡ ownerTable (b .sets)
   pub paths-are : entries ≡ pathTable (b .sets)
+
+-- What entering an arc into the book b's table of weights answers and leaves: a refusal leaves the table as it was.
+abbrev pub Enters : Book → ℕ → Arc → Verdict → List ℕ → Type 0
+Enters b at a v new = (v ≡ verdictOf (withArc b at a)) × (new ≡ weightTable (kept b (withArc b at a) .arcs))
 
 -- the tables that stand for nothing yet
 pub record Blank (weights flags owners paths : List ℕ) : Type 0 where

@@ -8,12 +8,13 @@ ghost use Rattle.book.specs.Book.{Book, WellFormed, names, properArc, is
 ghost use Rattle.book.specs.Book.{counts as Book·counts, simple as Book·simple};
 ghost use Rattle.book.specs.Reading.{readAs, u16At, u32At, endAt, lengthAt, kindOf, framed, taken, kept};
 ghost use Rattle.book.specs.Reading.{field as Reading·field, fits as Reading·fits, follows as Reading·follows};
-ghost use Rattle.book.specs.Tables.{Tables, weightTable, flagTable, ownerTable, pathTable};
+ghost use Rattle.book.specs.Tables.{Tables, IsGraph, Enters, weightTable, flagTable, ownerTable, pathTable};
 ghost use Rattle.book.specs.declared.Kind.the-variants.{VertexCount, Arc, RuleSet, Path};
 use crate::Answer;
 use crate::Counts;
 use crate::Kind;
 use crate::Refusal;
+use crate::Verdict;
 use limits::AREA;
 use limits::ENTRY;
 use limits::HEAVIEST;
@@ -127,7 +128,7 @@ fn vertex_count(bytes: &[u8], at: usize, counts: Counts) -> Answer
     })
 }
 
-pub fn proper_arc(vertices: usize, tail: usize, head: usize, weight: usize) -> bool
+fn proper_arc(vertices: usize, tail: usize, head: usize, weight: usize) -> bool
     ensures { λ r. ⌜ r ≡ properArc vertices (record { tail = tail; head = head; weight = weight }) ⌝ }
 {
     if vertices <= tail {
@@ -142,6 +143,29 @@ pub fn proper_arc(vertices: usize, tail: usize, head: usize, weight: usize) -> b
     weight <= HEAVIEST
 }
 
+// Enters an arc into a book's table of weights; a refusal carries `at`.
+pub fn enter_arc(
+    vertices: usize,
+    at: usize,
+    tail: usize,
+    head: usize,
+    weight: usize,
+    weights: &mut [u32; PAIRS],
+) -> Verdict
+    requires { ⌜ vertices ≤ mostVertices ⌝ }
+    ensures { λ r. ⌜ ((b : Book) → IsGraph b vertices (now (weights .entry)) → Enters b at (record { tail = tail; head = head; weight = weight }) r (now (weights .exit))) ⌝ }
+{
+    if !proper_arc(vertices, tail, head, weight) {
+        return Verdict::Refused(Refusal::Value(at));
+    }
+    let pair = tail * MOST_VERTICES + head;
+    if weights[pair] != NO_ARC {
+        return Verdict::Refused(Refusal::Repeated(at));
+    }
+    weights[pair] = weight as u32;
+    Verdict::Good
+}
+
 fn arc(bytes: &[u8], at: usize, counts: Counts, weights: &mut [u32; PAIRS]) -> Answer
     requires { ⌜ at + 9 ≤ length (now bytes) ⌝ }
     requires { ⌜ counts .vertices ≤ mostVertices ⌝ }
@@ -151,20 +175,15 @@ fn arc(bytes: &[u8], at: usize, counts: Counts, weights: &mut [u32; PAIRS]) -> A
     let tail = wide(bytes[at + 3]);
     let head = wide(bytes[at + 4]);
     let weight = u32_at(bytes, at + 5);
-    if !proper_arc(counts.vertices, tail, head, weight) {
-        return Answer::Refused(Refusal::Value(at));
+    match enter_arc(counts.vertices, at, tail, head, weight, weights) {
+        Verdict::Refused(r) => Answer::Refused(r),
+        Verdict::Good => Answer::Read(Counts {
+            vertices: counts.vertices,
+            arcs: counts.arcs + 1,
+            sets: counts.sets,
+            paths: counts.paths,
+        }),
     }
-    let pair = tail * MOST_VERTICES + head;
-    if weights[pair] != NO_ARC {
-        return Answer::Refused(Refusal::Repeated(at));
-    }
-    weights[pair] = weight as u32;
-    Answer::Read(Counts {
-        vertices: counts.vertices,
-        arcs: counts.arcs + 1,
-        sets: counts.sets,
-        paths: counts.paths,
-    })
 }
 
 fn rule_set(bytes: &[u8], at: usize, counts: Counts, flags: &mut [u16; MOST_SETS]) -> Answer

@@ -8,10 +8,10 @@ ghost use Rattle.book.specs.Tables.{Blank, Tables};
 
 mod field;
 
+pub use field::enter_arc;
 use field::field;
 use field::field_end;
 pub use field::is_path;
-pub use field::proper_arc;
 use limits::AREA;
 use limits::MOST_PATHS;
 use limits::MOST_SETS;
@@ -92,6 +92,12 @@ pub struct Counts {
 
 pub enum Answer {
     Read(Counts),
+    Refused(Refusal),
+}
+
+// What entering comes to, where nothing is counted.
+pub enum Verdict {
+    Good,
     Refused(Refusal),
 }
 

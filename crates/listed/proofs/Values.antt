@@ -18,12 +18,12 @@ use borrow.Rule.Yields.{Yields, Makes, yields-copy, makes-mem}
 use borrow.Table.Copies.{Cp, cStruct, cEnum}
 use borrow.Table.Referent.{rtF, fInt}
 use borrow.Table.Rows.{whole}
+use Rattle.book.proofs.Verdict as Ve
+use Rattle.book.proofs.Verdict.Laws as Ve′
 use Rattle.planner.proofs.Outcome as Ou
 use Rattle.planner.proofs.Outcome.Laws as Ou′
 use Rattle.listed.proofs.Arc as Ar
 use Rattle.listed.proofs.Arc.Laws as Ar′
-use Rattle.listed.proofs.Verdict as Ve
-use Rattle.listed.proofs.Verdict.Laws as Ve′
 
 -- ---- an item, behind a reference and by value
 abbrev pub Item : RattleType

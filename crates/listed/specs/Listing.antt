@@ -1,14 +1,14 @@
 -- The reading of a count and a list of arcs (01: the changeovers as a list of from, to and litres, with the count of grades) as a book
 -- without rule sets. A refusal carries the item's index, from 0.
 use Prim.Native.Nat.{ℕ, suc}
-use mathlib.Core.Bool.{not, _&&_}
-use mathlib.Core.List.{List, [], _∷_, _++_}
+use mathlib.Core.Bool.{_&&_}
+use mathlib.Core.List.{List, [], _∷_}
 use lib.Dec.{leb}
 use Rattle.limits.specs.Limits.{mostVertices}
 use Rattle.walks.specs.Graph.{Arc}
 use Rattle.book.specs.Refusal.{Test, testAt, firstFailure}
-use Rattle.book.specs.Book.{Book, given, properArc}
-use Rattle.book.specs.Reading.{Reading, accepted, andThen, outcome}
+use Rattle.book.specs.Book.{Book}
+use Rattle.book.specs.Reading.{Reading, accepted, andThen, outcome, withArc}
 use Rattle.listed.specs.declared.Arc.{Arc as Item}
 
 -- the arc of an item
@@ -22,23 +22,10 @@ counting n = testAt 0 4 (leb 1 n && leb n mostVertices) ∷ []
 abbrev pub counted : ℕ → Reading
 counted n = outcome (firstFailure (counting n)) (record { count = n; arcs = []; sets = [] })
 
--- The tests of the item at index i, in the book of the items before it: those of an arc's field. 4: an arc within the limits;
--- 5: its pair has not been given.
-abbrev pub itemTests : Book → ℕ → Arc → List Test
-itemTests b i a =
-    testAt i 4 (properArc (b .count) a) ∷ testAt i 5 (not (given (b .arcs) (a .tail) (a .head))) ∷ []
-
--- the book with one more arc
-abbrev pub added : Book → Arc → Book
-added b a = record { count = b .count; arcs = b .arcs ++ (a ∷ []); sets = b .sets }
-
-abbrev pub withItem : Book → ℕ → Arc → Reading
-withItem b i a = outcome (firstFailure (itemTests b i a)) (added b a)
-
 -- the items from index i on, after a book; the first bad one decides
 unfoldable pub items : ℕ → List Item → Book → Reading
 items i [] b = accepted b
-items i (x ∷ xs) b = andThen (withItem b i (arcOf x)) (items (suc i) xs)
+items i (x ∷ xs) b = andThen (withArc b i (arcOf x)) (items (suc i) xs)
 
 abbrev pub listing : ℕ → List Item → Reading
 listing n xs = andThen (counted n) (items 0 xs)

@@ -13,13 +13,13 @@ use Rattle.book.specs.declared.Refusal.the-variants.{Value, Repeated}
 use Rattle.book.specs.Refusal.{refusalBy}
 use Rattle.book.specs.Book.{Book, All, IsArc, PairsOnce, given, graph, properArc}
 use Rattle.book.specs.BookLaws.{reading-is-book, given-cons, other-pair}
-use Rattle.book.specs.Reading.{accepted, andThen, outcome, reading}
+use Rattle.book.specs.Reading.{accepted, andThen, outcome, reading, addArc, withArc}
 use Rattle.rules.specs.Area.{spelled}
 use Rattle.planner.specs.declared.Outcome.{Outcome}
 use Rattle.planner.specs.Planning.{planTests, PlanningOf, Planning}
 use Rattle.planner.specs.RuleSets.{planned-same}
 use Rattle.listed.specs.declared.Arc.{Arc as Item}
-use Rattle.listed.specs.Listing.{arcOf, withItem, added, items, listing}
+use Rattle.listed.specs.Listing.{arcOf, items, listing}
 
 -- the arcs of a list
 abbrev pub arcsOf : List Item → List Arc
@@ -46,9 +46,9 @@ not-before (x ∷ xs) a ys once =
 abbrev more : Book → List Arc → Book
 more b as′ = record { count = b .count; arcs = b .arcs ++ as′; sets = b .sets }
 
-good-item : (b : Book) (i : ℕ) (a : Arc) → IsArc (b .count) a → given (b .arcs) (a .tail) (a .head) ≡ false → withItem b i a ≡ accepted (added b a)
+good-item : (b : Book) (i : ℕ) (a : Arc) → IsArc (b .count) a → given (b .arcs) (a .tail) (a .head) ≡ false → withArc b i a ≡ accepted (addArc b a)
 good-item b i a is new =
-    ap₂ (λ x y. outcome (cond x (cond (not y) none (some (Repeated i))) (some (Value i))) (added b a)) (arc-passes (b .count) a is) new
+    ap₂ (λ x y. outcome (cond x (cond (not y) none (some (Repeated i))) (some (Value i))) (addArc b a)) (arc-passes (b .count) a is) new
 
 good-items : (b : Book) (i : ℕ) (xs : List Item) → All (IsArc (b .count)) (arcsOf xs) → PairsOnce (b .arcs ++ arcsOf xs)
     → items i xs b ≡ accepted (more b (arcsOf xs))
@@ -57,7 +57,7 @@ good-items b i [] proper once = ap (λ l. accepted (record { count = b .count; a
 good-items b i (x ∷ xs) proper once =
     let joined : (b .arcs ++ (arcOf x ∷ [])) ++ arcsOf xs ≡ b .arcs ++ (arcOf x ∷ arcsOf xs) = append-assoc (b .arcs) (arcOf x ∷ []) (arcsOf xs) in
     ap (λ r. andThen r (items (suc i) xs)) (good-item b i (arcOf x) (proper .0) (not-before (b .arcs) (arcOf x) (arcsOf xs) once))
-    ∙ good-items (added b (arcOf x)) (suc i) xs (proper .1) (subst PairsOnce (sym joined) once)
+    ∙ good-items (addArc b (arcOf x)) (suc i) xs (proper .1) (subst PairsOnce (sym joined) once)
     ∙ ap (λ l. accepted (record { count = b .count; arcs = l; sets = b .sets })) joined
 
 -- The list of a book's arcs reads as that book without its rule sets.

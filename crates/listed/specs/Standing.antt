@@ -4,14 +4,10 @@ use mathlib.Core.Path.{_≡_}
 use mathlib.Core.Bool.{Bool, false}
 use mathlib.Core.List.{List}
 use lib.Dec.{ltb}
-use Rattle.book.specs.Reading.{Reading, accepted, refused}
+use Rattle.book.specs.Reading.{Reading, accepted, refused, verdictOf}
 use Rattle.book.specs.Tables.{IsGraph}
-use Rattle.listed.specs.declared.Verdict.{Verdict}
-use Rattle.listed.specs.declared.Verdict.the-variants.{Good, Refused}
-
-abbrev pub verdictOf : Reading → Verdict
-verdictOf (accepted b) = Good
-verdictOf (refused x) = Refused x
+use Rattle.book.specs.declared.Verdict.{Verdict}
+use Rattle.book.specs.declared.Verdict.the-variants.{Good, Refused}
 
 -- whether item i of n is still to be entered
 abbrev pub goesOn : Verdict → ℕ → ℕ → Bool

@@ -14,19 +14,18 @@ use Rattle.lists.specs.Test.{and-true}
 use Rattle.walks.specs.Graph.{Arc}
 use Rattle.book.specs.declared.Refusal.{Refusal}
 use Rattle.book.specs.declared.Refusal.the-variants.{Value, Repeated}
-use Rattle.book.specs.Book.{Book, IsArc, WellFormed, allPaths, given, properArc}
-use Rattle.book.specs.BookLaws.{is-arc, arc-well-formed}
-use Rattle.book.specs.Reading.{Reading, accepted, refused, andThen, outcome}
-use Rattle.book.specs.TableLaws.{entered-arc, marked→free, unmarked→given}
-use Rattle.book.specs.Tables.{IsGraph, entered, weightTable}
+use Rattle.book.specs.Book.{Book, WellFormed, allPaths, given, properArc}
+use Rattle.book.specs.BookLaws.{arc-well-formed}
+use Rattle.book.specs.Reading.{Reading, accepted, refused, andThen, outcome, verdictOf, addArc, withArc, kept}
+use Rattle.book.specs.Tables.{IsGraph, Enters, entered, weightTable}
 use Rattle.limits.specs.Limits.{pairs, noArc, mostVertices}
 use Rattle.planner.specs.declared.Outcome.{Outcome}
 use Rattle.planner.specs.Planning.{PlanningOf}
 use Rattle.listed.specs.declared.Arc.{Arc as Item}
-use Rattle.listed.specs.declared.Verdict.{Verdict}
-use Rattle.listed.specs.declared.Verdict.the-variants.{Good, Refused}
-use Rattle.listed.specs.Listing.{arcOf, counted, withItem, added, items, listing}
-use Rattle.listed.specs.Standing.{goesOn, verdictOf, Table, Stands}
+use Rattle.book.specs.declared.Verdict.{Verdict}
+use Rattle.book.specs.declared.Verdict.the-variants.{Good, Refused}
+use Rattle.listed.specs.Listing.{arcOf, counted, items, listing}
+use Rattle.listed.specs.Standing.{goesOn, Table, Stands}
 
 not-refused : (x : Refusal) → Good ≡ Refused x → ⊥
 not-refused x e = let z : _≡_ {A = ℕ} 0 1 = cc in omega arith
@@ -66,54 +65,17 @@ pub few-vertices : (n : ℕ) → 1 ≤ n → n ≤ mostVertices → Good ≡ ver
 few-vertices n low high = ap₂ (λ x y. counted-by n (x && y)) (sym (le-leb 1 n low)) (sym (le-leb n mostVertices high))
 
 -- ---- one item
-module _ (n : ℕ) (b : Book) (t : List ℕ) (h : IsGraph b n t) (i : ℕ) (a : Arc) where
-  proper-is : (x : Bool) → properArc n a ≡ x → properArc (b .count) a ≡ x
-  proper-is x e = ap (λ k. properArc k a) (sym (h .vertices-are)) ∙ e
-
-  pub improper : properArc n a ≡ false → Stands n (withItem b i a) (Refused (Value i)) t
-  improper e =
-      subst (λ y. Stands n (outcome (cond y (cond (not (given (b .arcs) (a .tail) (a .head))) none (some (Repeated i))) (some (Value i))) (added b a)) (Refused (Value i)) t)
-      (sym (proper-is false e)) (record { verdict-is = refl; table = tt })
-
-  module _ (p : properArc n a ≡ true) where
-    within : IsArc n a
-    within = is-arc n a p
-
-    few : n ≤ mostVertices
-    few = omega (arith, h .vertices-are, h .well .few-vertices)
-
-    tail-fits : a .tail < mostVertices
-    tail-fits = omega (arith, within .tail-below, few)
-
-    head-fits : a .head < mostVertices
-    head-fits = omega (arith, within .head-below, few)
-
-    -- an arc that is proper is entered or not by whether its pair has been given
-    proper-item : (v : Verdict) (t′ : List ℕ) (y : Bool) → given (b .arcs) (a .tail) (a .head) ≡ y
-        → Stands n (outcome (cond (not y) none (some (Repeated i))) (added b a)) v t′ → Stands n (withItem b i a) v t′
-    proper-item v t′ y e s =
-        subst (λ x. Stands n (outcome (cond x (cond (not (given (b .arcs) (a .tail) (a .head))) none (some (Repeated i))) (some (Value i))) (added b a)) v t′)
-        (sym (proper-is true p))
-        (subst (λ x. Stands n (outcome (cond (not x) none (some (Repeated i))) (added b a)) v t′) (sym e) s)
-
-    pub repeated : (getD t (a .tail * mostVertices + a .head) 0 ≡ noArc → ⊥) → Stands n (withItem b i a) (Refused (Repeated i)) t
-    repeated ne =
-        let seen = unmarked→given b (h .well) _ _ tail-fits head-fits (λ e. ne (ap (λ l. getD l (a .tail * mostVertices + a .head) 0) (h .weights-are) ∙ e)) in
-        proper-item (Refused (Repeated i)) t true seen (record { verdict-is = refl; table = tt })
-
-    pub added-stands : getD t (a .tail * mostVertices + a .head) 0 ≡ noArc → Stands n (withItem b i a) Good (set t (a .tail * mostVertices + a .head) (a .weight))
-    added-stands e =
-        let new = marked→free b (h .well) _ _ tail-fits head-fits (ap (λ l. getD l (a .tail * mostVertices + a .head) 0) (sym (h .weights-are)) ∙ e) in
-        proper-item Good _ false new
-        (record {
-          verdict-is = refl;
-          table =
-              record {
-                well = arc-well-formed a b (h .well) (proper-is true p) new;
-                vertices-are = h .vertices-are;
-                weights-are = ap (λ l. set l (a .tail * mostVertices + a .head) (a .weight)) (h .weights-are) ∙ sym (entered-arc (replicate pairs noArc) (b .arcs) a);
-              };
-        })
+pub item-stands : (n : ℕ) (b : Book) (t : List ℕ) → IsGraph b n t → (i : ℕ) (a x : Arc) → x ≡ a → (v : Verdict) (t′ : List ℕ) → Enters b i x v t′ → Stands n (withArc b i a) v t′
+item-stands n b t h i a x is v t′ enters-x =
+    let enters : Enters b i a v t′ = subst (λ y. Enters b i y v t′) is enters-x in
+    record { verdict-is = enters .0; table = go (properArc (b .count) a) (given (b .arcs) (a .tail) (a .head)) refl refl (enters .1) }
+  where
+    go : (x y : Bool) → properArc (b .count) a ≡ x → given (b .arcs) (a .tail) (a .head) ≡ y
+        → let after = outcome (cond x (cond (not y) none (some (Repeated i))) (some (Value i))) (addArc b a) in
+        t′ ≡ weightTable (kept b after .arcs) → Table n after t′
+    go false y p q e = tt
+    go true true p q e = tt
+    go true false p q e = record { well = arc-well-formed a b (h .well) p q; vertices-are = h .vertices-are; weights-are = e }
 
 -- ---- the list
 pub goes-on : (v : Verdict) (i n : ℕ) → goesOn v i n ≡ true → i < n
@@ -132,7 +94,7 @@ going-first n xs v t is blank =
 
 -- an item is entered, and then those after it
 then-items : (x : Reading) (i : ℕ) (a : Item) (xs : List Item)
-    → andThen (andThen x (λ b. withItem b i (arcOf a))) (items (suc i) xs) ≡ andThen x (items i (a ∷ xs))
+    → andThen (andThen x (λ b. withArc b i (arcOf a))) (items (suc i) xs) ≡ andThen x (items i (a ∷ xs))
 unfolding items
 then-items (accepted b) i a xs = refl
 then-items (refused x) i a xs = refl
@@ -147,16 +109,16 @@ going-book n xs i v t m on g = go (g .so-far) v on (g .stands)
     go (refused x) (Refused y) e s = absurd (false≢true e)
 
 pub going-on : (n : ℕ) (xs : List Item) (i : ℕ) (d : Item) (v v′ : Verdict) (t t′ : List ℕ) → goesOn v i (length xs) ≡ true
-    → ((b : Book) → IsGraph b n t → Stands n (withItem b i (arcOf (getD xs i d))) v′ t′) → Going n xs i v t → Going n xs (i + 1) v′ t′
+    → ((b : Book) → IsGraph b n t → Stands n (withArc b i (arcOf (getD xs i d))) v′ t′) → Going n xs i v t → Going n xs (i + 1) v′ t′
 going-on n xs i d v v′ t t′ on judges g =
     subst (λ k. Going n xs k v′ t′) (sym (add-suc i 0 ∙ ap suc (add-zero i)))
     (record {
-      so-far = andThen (g .so-far) (λ b. withItem b i (arcOf (getD xs i d)));
+      so-far = andThen (g .so-far) (λ b. withArc b i (arcOf (getD xs i d)));
       stands = go (g .so-far) v on (g .stands);
       rest-is = then-items (g .so-far) i (getD xs i d) (drop (suc i) xs) ∙ ap (λ l. andThen (g .so-far) (items i l)) (sym (drop-cons xs i d (goes-on v i (length xs) on))) ∙ g .rest-is;
     })
   where
-    go : (x : Reading) (v : Verdict) → goesOn v i (length xs) ≡ true → Stands n x v t → Stands n (andThen x (λ b. withItem b i (arcOf (getD xs i d)))) v′ t′
+    go : (x : Reading) (v : Verdict) → goesOn v i (length xs) ≡ true → Stands n x v t → Stands n (andThen x (λ b. withArc b i (arcOf (getD xs i d)))) v′ t′
     go (accepted b) v e s = judges b (s .table)
     go (refused x) Good e s = absurd (not-refused x (s .verdict-is))
     go (refused x) (Refused y) e s = absurd (false≢true e)

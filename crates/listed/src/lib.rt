@@ -2,13 +2,14 @@
 ghost use mathlib.Core.Path.{_≡_};
 ghost use lib.ListN.{replicate};
 ghost use Rattle.book.specs.Book.{Book};
-ghost use Rattle.book.specs.Reading.{Reading};
+ghost use Rattle.book.specs.Reading.{Reading, verdictOf, withArc};
 ghost use Rattle.book.specs.Tables.{IsGraph};
 ghost use Rattle.limits.specs.Limits.{noArc, pairs};
 ghost use Rattle.planner.specs.Planning.{PlanningOf};
-ghost use Rattle.listed.specs.Listing.{arcOf, counted as Listing·counted, withItem, listing};
-ghost use Rattle.listed.specs.Standing.{Stands, goesOn, verdictOf};
+ghost use Rattle.listed.specs.Listing.{arcOf, counted as Listing·counted, listing};
+ghost use Rattle.listed.specs.Standing.{Stands, goesOn};
 use book::Refusal;
+use book::Verdict;
 use limits::MOST_VERTICES;
 use limits::NO_ARC;
 use limits::PAIRS;
@@ -20,12 +21,6 @@ pub struct Arc {
     pub tail: u8,
     pub head: u8,
     pub weight: u32,
-}
-
-// What the count and the items so far come to.
-enum Verdict {
-    Good,
-    Refused(Refusal),
 }
 
 // The count of vertices, before any item.
@@ -41,23 +36,19 @@ fn counted(vertices: usize) -> Verdict
     Verdict::Good
 }
 
-// Judges the item at index i after a book, and enters it into the table of weights.
+// Enters the item at index i into the table of weights of the items before it.
 fn enter(vertices: usize, i: usize, arc: Arc, weights: &mut [u32; PAIRS]) -> Verdict
     requires { ⌜ ((b : Book) × IsGraph b vertices (now weights)) ⌝ }
-    ensures { λ r. ⌜ ((b : Book) → IsGraph b vertices (now (weights .entry)) → Stands vertices (withItem b i (arcOf arc)) r (now (weights .exit))) ⌝ }
+    ensures { λ r. ⌜ ((b : Book) → IsGraph b vertices (now (weights .entry)) → Stands vertices (withArc b i (arcOf arc)) r (now (weights .exit))) ⌝ }
 {
-    let tail = wide(arc.tail);
-    let head = wide(arc.head);
-    let weight = arc.weight as usize;
-    if !book::proper_arc(vertices, tail, head, weight) {
-        return Verdict::Refused(Refusal::Value(i));
-    }
-    let pair = tail * MOST_VERTICES + head;
-    if weights[pair] != NO_ARC {
-        return Verdict::Refused(Refusal::Repeated(i));
-    }
-    weights[pair] = arc.weight;
-    Verdict::Good
+    book::enter_arc(
+        vertices,
+        i,
+        wide(arc.tail),
+        wide(arc.head),
+        arc.weight as usize,
+        weights,
+    )
 }
 
 // Whether item i of n is still to be entered.

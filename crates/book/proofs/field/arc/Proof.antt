@@ -1,14 +1,14 @@
--- `field::arc` meets its contract: the tests that led to each return are those of an arc's field, the table standing for the arcs so far.
+-- `field::arc` meets its contract: the arc that was read is entered, and counted where it is.
 use borrow.Author.Needs.{needs}
-use borrow.Author.Tests.{not-true, not-false}
 use denote.Ref.{now}
-use mathlib.Core.Path.{_≡_, sym, _∙_}
-use native.Mathlib.Omega.{arith}
+use mathlib.Core.List.{List}
+use mathlib.Core.Path.{_≡_, ap}
 use Rattle.walks.specs.Graph.{Arc}
-use Rattle.book.specs.Book.{IsArc}
-use Rattle.book.specs.BookLaws.{is-arc}
+use Rattle.book.specs.declared.Counts.{Counts}
+use Rattle.book.specs.Book.{Book, WellFormed, counts}
 use Rattle.book.specs.Reading.{arcAt}
-use Rattle.book.proofs.ArcField.{arc-improper, arc-repeated, arc-added}
+use Rattle.book.specs.Tables.{IsGraph, weightTable}
+use Rattle.book.proofs.ArcField.{field-refused, field-added}
 use Rattle.book.proofs.field.arc.Statement.{statement}
 use Rattle.book.proofs.field.arc.Tie as tie
 
@@ -36,72 +36,45 @@ add-u32-at c = search needs
 u32-at-requires : tie.Need-u32-at-requires
 u32-at-requires c κs = search needs
 
-proper-arc-requires : tie.Need-proper-arc-requires
-proper-arc-requires c κs = search needs
+enter-arc-requires : tie.Need-enter-arc-requires
+enter-arc-requires c κs = search needs
 
-mul-pair : tie.Need-mul-pair
-mul-pair c = search needs
+enum-known-r : tie.Need-enum-known-r
+enum-known-r c = search needs
 
-add-pair : tie.Need-add-pair
-add-pair c = search needs
+enum-told : tie.Need-enum-told
+enum-told c = search needs
 
-mul-if2 : tie.Need-mul-if2
-mul-if2 c = search needs
+add-t16 : tie.Need-add-t16
+add-t16 c = search needs
 
-mul-weights : tie.Need-mul-weights
-mul-weights c = search needs
-
-add-t9 : tie.Need-add-t9
-add-t9 c = search needs
-
--- the arc that was read
-abbrev arc-of : tie.After-proper-arc → Arc
+-- the arc that was read, and what entering it came to
+abbrev arc-of : tie.After-enter-arc → Arc
 arc-of c =
-    record { tail = c .before .before .before .before .wide .result; head = c .before .before .wide2 .result; weight = c .before .u32-at .result }
+    record { tail = c .before .before .before .before .before .wide .result; head = c .before .before .before .wide2 .result; weight = c .before .before .u32-at .result }
 
-arc-read : (c : tie.After-proper-arc) → let a = c .before .before .before .before .before .before .before .args in arc-of c ≡ arcAt (now (a .bytes)) (a .at)
+arc-read : (c : tie.After-enter-arc) → let a = c .before .before .before .before .before .before .before .before .args in arc-of c ≡ arcAt (now (a .bytes)) (a .at)
 arc-read c =
     λ i. record {
-      tail = c .before .before .before .before .wide .ensures .0 i;
-      head = c .before .before .wide2 .ensures .0 i;
-      weight = c .before .u32-at .ensures i;
+      tail = c .before .before .before .before .before .wide .ensures .0 i;
+      head = c .before .before .before .wide2 .ensures .0 i;
+      weight = c .before .before .u32-at .ensures i;
     }
 
--- where it is proper, its pair is in the table
-arc-within : (c : tie.Else1) → let p = c .before in IsArc (p .before .before .before .before .before .before .before .args .counts .vertices) (arc-of p)
-arc-within c = is-arc _ (arc-of (c .before)) (sym (c .before .proper-arc .ensures) ∙ not-false (c .before .proper-arc .result) (c .if1 .left))
+is-graph : (c : Counts) (b : Book) (t : List _) → c ≡ counts b → WellFormed b → t ≡ weightTable (b .arcs) → IsGraph b (c .vertices) t
+is-graph c b t so-far w held = record { well = w; vertices-are = ap (λ (d : Counts). d .vertices) so-far; weights-are = held }
 
 returns : tie.Need-returns
 returns c b so-far w held =
-    let p = c .before in
-    let a = p .before .before .before .before .before .before .before .args in
-    arc-improper (a .counts) (now (a .bytes)) b (a .at) so-far w (now (a .weights)) held (arc-of p) (arc-read p)
-    (sym (p .proper-arc .ensures) ∙ not-true (p .proper-arc .result) (c .if1 .taken))
-
-element-copy-out-if2 : tie.Need-element-copy-out-if2
-element-copy-out-if2 c = let inside = arc-within c in omega (arith, inside .tail-below, inside .head-below)
+    let q = c .before .before .before in
+    let a = q .before .before .before .before .before .before .before .before .args in
+    field-refused (now (a .bytes)) b (a .at) (arc-of q) (arc-read q) _ _ (q .enter-arc .ensures b (is-graph (a .counts) b (now (a .weights)) so-far w held)) _ (c .before .r .given .1)
 
 returns-2 : tie.Need-returns-2
 returns-2 c b so-far w held =
-    let p = c .before .before .before in
-    let a = p .before .before .before .before .before .before .before .args in
-    arc-repeated (a .counts) (now (a .bytes)) b (a .at) so-far w (now (a .weights)) held (arc-of p) (arc-read p)
-    (sym (p .proper-arc .ensures) ∙ not-false (p .proper-arc .result) (c .before .before .if1 .left))
-    (c .if2 .taken)
-
-cast-weights : tie.Need-cast-weights
-cast-weights c = let inside = arc-within (c .before .before) in omega (arith, inside .light)
-
-element-write-weights : tie.Need-element-write-weights
-element-write-weights c = let inside = arc-within (c .before .before) in omega (arith, inside .tail-below, inside .head-below)
-
-returns-3 : tie.Need-returns-3
-returns-3 c b so-far w held =
-    let p = c .before .before .before .before in
-    let a = p .before .before .before .before .before .before .before .args in
-    arc-added (a .counts) (now (a .bytes)) b (a .at) so-far w (now (a .weights)) held (arc-of p) (arc-read p)
-    (sym (p .proper-arc .ensures) ∙ not-false (p .proper-arc .result) (c .before .before .before .if1 .left))
-    (c .before .if2 .left)
+    let q = c .before .before .before in
+    let a = q .before .before .before .before .before .before .before .before .args in
+    field-added (now (a .bytes)) b (a .at) (arc-of q) (arc-read q) _ _ (q .enter-arc .ensures b (is-graph (a .counts) b (now (a .weights)) so-far w held)) (a .counts) so-far (c .before .enum-told .given .1)
 
 pub arc-spec : {M : Type 1} → statement M
 arc-spec =
@@ -115,15 +88,9 @@ arc-spec =
     wide-requires-2
     add-u32-at
     u32-at-requires
-    proper-arc-requires
+    enter-arc-requires
+    enum-known-r
+    enum-told
+    add-t16
     returns
-    mul-pair
-    add-pair
-    mul-if2
-    element-copy-out-if2
-    returns-2
-    cast-weights
-    mul-weights
-    element-write-weights
-    add-t9
-    returns-3)
+    returns-2)
