@@ -1,14 +1,12 @@
 // What the program `plan` prints, as a function from its input's bytes to its output's.
-ghost use mathlib.Core.Path.{_≡_};
-ghost use Prim.Native.Nat.{_+_, _*_, _≤_};
+ghost use Prim.Native.Nat.{_≤_};
 ghost use lib.ListN.{length};
-ghost use Rattle.limits.specs.Limits.{longest};
 ghost use Rattle.book.specs.Book.{Book};
 ghost use Rattle.book.specs.Reading.{accepted, reading};
 ghost use Rattle.book.specs.Tables.{IsGraph, IsSets};
 ghost use Rattle.answer.specs.Answer.{Printed, AnsweredOf};
 ghost use Rattle.text.specs.Text.{longestText};
-ghost use Rattle.text.specs.Writing.{Wrote, WroteSome, Standing};
+ghost use Rattle.text.specs.Writing.{WroteSome};
 use book::Answer;
 use book::Refusal;
 use limits::AREA;

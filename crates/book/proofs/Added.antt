@@ -1,5 +1,5 @@
 -- What a field adds: to the lists that a book's tables stand for, and to its counts.
-use Prim.Native.Nat.{ℕ, suc, _+_, _-_, _*_, _≤_, _<_}
+use Prim.Native.Nat.{ℕ, suc, _+_, _-_, _≤_, _<_}
 use mathlib.Core.Path.{_≡_, refl, sym, ap, ap₂, _∙_}
 use mathlib.Core.List.{List, [], _∷_, _++_, append-nil, append-assoc}
 use native.Mathlib.Nat.{add-zero}
@@ -7,10 +7,9 @@ use native.Mathlib.Omega.{arith}
 use lib.ListN.{length, set, replicate, length-append, length-map, replicate-append-replicate}
 use Rattle.book.specs.declared.Counts.{Counts}
 use Rattle.book.specs.declared.Kind.the-variants.{VertexCount, Arc, RuleSet, Path}
-use Rattle.walks.specs.Graph.{Arc as Book·Arc}
 use Rattle.book.specs.Book.{RuleSet as Book·RuleSet, Book, allPaths, counts}
 use Rattle.book.specs.Reading.{countAt, arcAt, flagsAt, pathAt, extended, addPath}
-use Rattle.book.specs.Tables.{entered, flagsOf, ownersFrom, padded, flagTable}
+use Rattle.book.specs.Tables.{flagsOf, ownersFrom, padded, flagTable}
 use Rattle.book.specs.BookLaws.{bare, paths-set, length-sets-path, paths-path}
 use Rattle.book.proofs.Padded.{padded-set}
 

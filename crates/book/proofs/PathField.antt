@@ -14,11 +14,11 @@ use Rattle.book.specs.declared.Answer.the-variants.{Read, Refused}
 use Rattle.book.specs.declared.Counts.{Counts}
 use Rattle.book.specs.declared.Kind.the-variants.{Path}
 use Rattle.book.specs.declared.Refusal.the-variants.{Value, TooMany}
-use Rattle.book.specs.Book.{Book, RuleSet, All, IsPath, WellFormed, allPaths, counts, simple}
+use Rattle.book.specs.Book.{Book, RuleSet, All, WellFormed, allPaths, counts, simple}
 use Rattle.book.specs.BookLaws.{all-map, paths-path}
 use Rattle.book.specs.Reading.{Reading, readAs, addPath, endAt, lengthAt, pathAt, taken, kept, proper}
 use Rattle.book.specs.Tables.{ownersFrom, entries, padded, ownerTable, pathTable}
-use Rattle.book.specs.EntryLaws.{length-padded, length-owners, entries-snoc, length-entries}
+use Rattle.book.specs.EntryLaws.{length-owners, entries-snoc, length-entries}
 use Rattle.book.proofs.Added.{counts-path, owners-path}
 use Rattle.book.proofs.Padded.{padded-set, padded-entry}
 use Rattle.book.proofs.Taken.{taken-value, taken-many, taken-whole}

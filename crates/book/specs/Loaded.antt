@@ -8,7 +8,7 @@ use Rattle.limits.specs.Limits.{mostVertices, mostSets, mostPaths, areaSize}
 use Rattle.book.specs.declared.Answer.{Answer}
 use Rattle.book.specs.declared.Answer.the-variants.{Read}
 use Rattle.book.specs.declared.Counts.{Counts}
-use Rattle.book.specs.Book.{Book, RuleSet, All, WellFormed, allPaths, counts}
+use Rattle.book.specs.Book.{Book, RuleSet, All, WellFormed, allPaths}
 use Rattle.book.specs.BookLaws.{answer-read, reading-is-book, all-map}
 use Rattle.book.specs.Reading.{accepted, reading, readAs}
 use Rattle.book.specs.Tables.{Tables, IsGraph, IsSets, entries, ownersFrom, ownerTable, pathTable}

@@ -1,7 +1,7 @@
 -- What the comparisons find in records and in refusals.
 use Prim.Native.Nat.{ℕ}
 use mathlib.Core.Bool.{false, false≢true}
-use mathlib.Core.Path.{_≡_, refl, sym, ap, ap₂, _∙_}
+use mathlib.Core.Path.{_≡_, sym, ap, ap₂, _∙_}
 use native.Mathlib.Omega.{arith}
 use Rattle.book.specs.declared.Number.{Number}
 use Rattle.book.specs.declared.Refusal.{Refusal}

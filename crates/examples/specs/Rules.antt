@@ -9,11 +9,12 @@ use Rattle.examples.specs.Books.{bytesA}
 use Rattle.book.specs.Reading.{reading, fields, addPath}
 use Rattle.book.specs.Tables.{entries}
 use Rattle.rules.specs.declared.Bound.the-variants.{Known}
-use Rattle.rules.specs.declared.Checked.the-variants.{Clear, Occurs, Refused}
+use Rattle.walk_check.specs.declared.Checked.the-variants.{Clear, Occurs, Refused}
 use Rattle.rules.specs.Binding.{covers, applied, once}
 use Rattle.rules.specs.Area.{written, blocks}
-use Rattle.rules.specs.Checking.{firstFrom, checkFrom}
-use Rattle.rules.specs.Operations.{binding, boundAs, areaAfter, checking}
+use Rattle.walk_check.specs.Checking.{firstFrom, checkFrom}
+use Rattle.rules.specs.Operations.{binding, boundAs, areaAfter}
+use Rattle.walk_check.specs.Checking.{checking}
 
 -- An area of 2,304 bytes, with one byte after them.
 abbrev lent : List ℕ

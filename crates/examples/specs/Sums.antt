@@ -32,7 +32,7 @@ use Rattle.trials.specs.declared.Begun.{Begun}
 use Rattle.trials.specs.declared.Reported.{Reported}
 use Rattle.trial_rules.specs.Trials.{Report, failed, State, pathArea, trials, beginTests, oracleTests, Valid, isForbiddenSet, isRecord, isValid, beginRefusal, refusal, Plan, Planner, holding, unless, step, after, run}
 use Rattle.series.specs.Reports.{reportsIn, reportsOf}
-use Rattle.trials.specs.Operations.{Leaves, leaves, begunAs, firstState, beginningOf, beginning, reportedAs, reportingOf, reporting}
+use Rattle.trials.specs.Operations.{Leaves, answering, begunAs, firstState, beginningOf, beginning, reportedAs, reportingOf, reporting}
 use Rattle.series.specs.Making.{replayingOf, replaying}
 use Rattle.trial_rules.specs.Tests.{isForbiddenSet→, isValid→Valid}
 use Rattle.trial_rules.specs.Plans.{plan-best, plan-none}
@@ -58,7 +58,7 @@ abbrev pub Stands : Type 0
 Stands = List ℕ → List ℕ → State
 
 abbrev pub leaving : {A : Type 0} → A → State → Leaves A
-leaving a σ = leaves a (pathArea σ) (σ .area)
+leaving a σ = answering a (pathArea σ) (σ .area)
 
 -- Begin under these marks leads to σ.
 abbrev pub Begins : ℕ → Stands → Type 0

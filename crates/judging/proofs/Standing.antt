@@ -1,7 +1,7 @@
 -- The standing walk, by what its tests say.
 use Prim.Native.Nat.{ℕ, _-_, _≤_}
 use mathlib.Core.Bool.{Bool, true, false, _&&_}
-use mathlib.Core.List.{List, [], _∷_, List·Memᴰ, List·Memᴰ·head, List·Memᴰ·tail}
+use mathlib.Core.List.{List, [], _∷_}
 use mathlib.Core.Path.{_≡_, refl, sym, ap, _∙_}
 use native.Mathlib.Omega.{arith}
 use borrow.Author.Tests.{le-leb, eq-eqb, ne-eqb, eqb-true}
@@ -12,14 +12,13 @@ use Rattle.walks.specs.Graph.{Graph}
 use Rattle.walks.specs.Walk.{isWalk, weightOf, hops}
 use Rattle.walks.specs.Avoid.{avoids, avoids→Avoids, Avoids→avoids}
 use Rattle.walks.specs.Feasible.{isFeasible}
-use Rattle.book.specs.Book.{All, IsPath}
-use Rattle.rules.specs.declared.Checked.the-variants.{Clear}
+use Rattle.walk_check.specs.declared.Checked.the-variants.{Clear}
 use Rattle.rules.specs.Area.{spelled, valid}
-use Rattle.limits.specs.Limits.{areaSize, longest}
-use Rattle.rules.specs.Checking.{checkable, occurrence}
-use Rattle.rules.specs.CheckLaws.{clear→Avoids, Avoids→clear}
+use Rattle.limits.specs.Limits.{longest}
+use Rattle.walk_check.specs.Checking.{checkable, occurrence}
+use Rattle.walk_check.specs.CheckLaws.{clear→Avoids, Avoids→clear}
 use Rattle.rules.specs.Sets.{iff, refuted}
-use Rattle.rules.specs.Laws.{sizes}
+use Rattle.walk_check.specs.Laws.{sizes}
 use Rattle.rules.specs.ValidLaws.{valid→Valid}
 
 pub only-walk : (g : Graph) (w : List ℕ) → length w ≤ longest → checkable g w ≡ isWalk g w

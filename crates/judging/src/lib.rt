@@ -20,8 +20,8 @@ use limits::AREA;
 use limits::LONGEST;
 use limits::MOST_VERTICES;
 use limits::PAIRS;
-use rules::Checked;
 use trial_record::Record;
+use walk_check::Checked;
 
 pub enum Judged {
     Standing,
@@ -53,7 +53,7 @@ fn stands(weights: &[u32; PAIRS], vertices: usize, rec: Record, paths: &[u8], wa
     requires { ⌜ (areaSize ≤ length (now paths)) × (valid vertices (now paths) (rec .known) ≡ true) ⌝ }
     ensures { λ r. ⌜ ((b : Book) → IsGraph b vertices (now (weights .entry)) → r ≡ isFeasible (graph b) (spelled (rec .known) (now (paths .entry))) (rec .start) (rec .end) (now (walk .entry)) && eqb (rec .litres) (weightOf (graph b) (now (walk .entry)))) ⌝ }
 {
-    if !rules::is_walk(weights, vertices, walk) {
+    if !walk_check::is_walk(weights, vertices, walk) {
         return false;
     }
     if walk[0] != rec.start {
@@ -62,7 +62,7 @@ fn stands(weights: &[u32; PAIRS], vertices: usize, rec: Record, paths: &[u8], wa
     if walk[walk.len() - 1] != rec.end {
         return false;
     }
-    let Checked::Clear = rules::first_occurrence(paths, rec.known, walk) else {
+    let Checked::Clear = walk_check::first_occurrence(paths, rec.known, walk) else {
         return false;
     };
     weigh(weights, vertices, walk) == rec.litres

@@ -7,7 +7,7 @@ use limits::AREA;
 use lists::u16_from;
 use lists::wide;
 use rules::Bound;
-use rules::Checked;
+use walk_check::Checked;
 
 pub fn check_case(input: &[u8]) {
     let size = input.len();
@@ -26,7 +26,7 @@ pub fn check_case(input: &[u8]) {
     let bytes = &input[end..];
     let mut area = [0u8; AREA];
     match rules::bind(bytes, flags, &mut area) {
-        Bound::Known(count) => print(rules::check(bytes, &area, count, walk)),
+        Bound::Known(count) => print(walk_check::check(bytes, &area, count, walk)),
         Bound::Refused(r) => refusal(r),
     }
 }

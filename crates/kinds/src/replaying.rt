@@ -1,6 +1,6 @@
 // The case of a replay: the flags in two bytes (high byte first), start, end, the book's length in four, the book, and the reports.
 ghost use mathlib.Core.Path.{_≡_};
-ghost use Rattle.trials.specs.Operations.{leaves};
+ghost use Rattle.trials.specs.Operations.{answering};
 ghost use Rattle.series.specs.Making.{replaying};
 ghost use Rattle.series.specs.Reports.{reportsOf};
 ghost use Rattle.series.specs.Whole.{reportsOn};
@@ -67,7 +67,7 @@ fn step(
     paths: &mut [u8],
     walk: &mut [u8],
 ) -> Begun
-    ensures { λ r. ⌜ leaves r (now (paths .exit)) (now (walk .exit)) ≡ replaying (now (bytes .entry)) flags start end (now (reports .entry)) (now (paths .entry)) (now (walk .entry)) ⌝ }
+    ensures { λ r. ⌜ answering r (now (paths .exit)) (now (walk .exit)) ≡ replaying (now (bytes .entry)) flags start end (now (reports .entry)) (now (paths .entry)) (now (walk .entry)) ⌝ }
 {
     let begun = trials::begin(bytes, flags, start, end, paths, walk);
     match begun {
@@ -89,7 +89,7 @@ fn make_all(
     paths: &mut [u8],
     walk: &mut [u8],
 ) -> Record
-    ensures { λ r. ⌜ leaves r (now (paths .exit)) (now (walk .exit)) ≡ reportsOn (now (bytes .entry)) (leaves first (now (paths .entry)) (now (walk .entry))) (reportsOf (now (reports .entry))) ⌝ }
+    ensures { λ r. ⌜ answering r (now (paths .exit)) (now (walk .exit)) ≡ reportsOn (now (bytes .entry)) (answering first (now (paths .entry)) (now (walk .entry))) (reportsOf (now (reports .entry))) ⌝ }
 {
     let mut rec = first;
     let mut at = 0;

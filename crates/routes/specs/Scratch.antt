@@ -5,7 +5,7 @@ use mathlib.Core.Path.{_≡_, sym, ap, ap₂, _∙_}
 use Prim.Native.Nat.{ℕ, zero, suc, _*_, _^_, _<_, _≤_}
 use native.Mathlib.Omega.{arith}
 use native.Mathlib.Decide.{decLt}
-use lib.ListN.{length, take, replicate, length-replicate, getD-replicate, List·getD-eq-default}
+use lib.ListN.{length, take, List·getD-eq-default}
 use lib.Seq.{length-take-le, getD-take}
 use Rattle.limits.specs.Limits.{mostVertices}
 use Rattle.distances.specs.Edge.{edges, Within}

@@ -5,6 +5,3 @@ pub mod Entered
 pub mod Validity
 pub mod Gathered
 pub mod Binds
-pub mod Walks
-pub mod Searched
-pub mod Checks

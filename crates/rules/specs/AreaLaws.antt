@@ -6,7 +6,7 @@ use mathlib.Core.Path.{_≡_, refl, sym, ap, ap₂, _∙_}
 use native.Mathlib.Nat.{add-zero, zero-add}
 use native.Mathlib.Omega.{arith}
 use lib.ListN.{length, getD, take, drop, replicate, length-append, length-replicate, length-drop, replicate-append-replicate}
-use lib.Seq.{paste, slice, take-at, drop-at, take-append-seam, drop-append-add, drop-drop, take-add, take-take, getD-take, getD-drop, length-take-le}
+use lib.Seq.{paste, take-at, drop-at, take-append-seam, drop-append-add, drop-drop, take-take, getD-take, getD-drop, length-take-le}
 use Rattle.limits.specs.Limits.{entrySize, longestPath}
 use Rattle.book.specs.Book.{All}
 use Rattle.book.specs.Tables.{padded, entry, entries}

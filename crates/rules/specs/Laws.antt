@@ -1,4 +1,4 @@
--- The laws of binding and of the check.
+-- The laws of binding.
 use Prim.Native.Nat.{ℕ, _≤_}
 use mathlib.Core.Bool.{Bool, true, false, cond}
 use mathlib.Core.List.{List, [], _∷_, _++_, append-nil, List·Memᴰ, List·Memᴰ·head, List·Memᴰ·tail, List·Memᴰ·cases-cons, List·Memᴰ·append-cases, List·Memᴰ·not-nil, Memᴰ·append-left, Memᴰ·append-right, List·Permᴰ, List·Permᴰ·nil, List·Permᴰ·cons, List·Permᴰ·swap, List·Permᴰ·trans, Permᴰ·symm}
@@ -6,27 +6,20 @@ use mathlib.Core.Logic.{⊎-elim}
 use mathlib.Core.Option.{Option, none, some}
 use mathlib.Core.Path.{_≡_, refl, sym, ap, ap₂, subst, _∙_}
 use native.Mathlib.Omega.{arith}
-use borrow.Author.Tests.{le-leb}
-use lib.Dec.{leb}
 use lib.ListN.{length, drop, length-append}
-use Rattle.walks.specs.Avoid.{Avoids, _⊆_}
+use Rattle.walks.specs.Avoid.{_⊆_}
 use Rattle.book.specs.declared.Refusal.{Refusal}
-use Rattle.book.specs.Refusal.{Test, test, refusalBy}
-use Rattle.book.specs.RefusalLaws.{none→hold, hold→none, first-of-append}
-use Rattle.book.specs.Book.{RuleSet, Book, WellFormed, All, IsPath, graph}
+use Rattle.book.specs.Refusal.{refusalBy}
+use Rattle.book.specs.Book.{RuleSet, Book, WellFormed, All, IsPath}
 use Rattle.book.specs.BookLaws.{reading-is-book}
-use Rattle.book.specs.Reading.{Reading, reading, refusalOf}
-use Rattle.rules.specs.declared.Checked.{Checked}
-use Rattle.rules.specs.declared.Checked.the-variants.{Clear}
+use Rattle.book.specs.Reading.{Reading, reading}
 use Rattle.rules.specs.Binding.{applies, applied, known, once}
 use Rattle.rules.specs.Area.{written, spelled, valid}
-use Rattle.limits.specs.Limits.{areaSize, longestPath}
-use Rattle.rules.specs.Checking.{checkable, occurrence}
-use Rattle.rules.specs.Operations.{Binding, outcome, bindTests, bindingOf, binding, areaAfter, verdict, checkTests, checkingOf, checking}
+use Rattle.limits.specs.Limits.{areaSize}
+use Rattle.rules.specs.Operations.{Binding, outcome, bindTests, bindingOf, binding, areaAfter}
 use Rattle.rules.specs.Sets.{listed→distinct, distinct→listed}
 use Rattle.rules.specs.BindingLaws.{known-few, known-paths, known-once}
-use Rattle.rules.specs.ValidLaws.{valid→Valid, written-length, written-valid, written-spells}
-use Rattle.rules.specs.CheckLaws.{clear→Avoids, Avoids→clear}
+use Rattle.rules.specs.ValidLaws.{written-length, written-valid, written-spells}
 
 -- ---- the known paths are those of the rule sets that apply
 -- A path of a rule set that applies.
@@ -141,42 +134,3 @@ module _ (s : List ℕ) (flags : ℕ) (area : List ℕ) where
             validity = ap (λ t. valid (b .count) t (length F)) after ∙ written-valid (b .count) F few proper different (drop areaSize area);
             spells = ap (spelled (length F)) after ∙ written-spells (b .count) F few proper different (drop areaSize area);
           }
-
--- ---- the check
--- the paths of a valid area have 2 to 8 vertices
-pub sizes : (v : ℕ) (F : List (List ℕ)) → All (IsPath v) F → (r : List ℕ) → List·Memᴰ r F → (2 ≤ length r) × (length r ≤ longestPath)
-sizes v [] h r m = absurd (List·Memᴰ·not-nil m)
-sizes v (p ∷ F) h r m =
-    ⊎-elim (λ here. (rw here (h .0 .two), rw here (h .0 .eight))) (sizes v F (h .1) r) (List·Memᴰ·cases-cons m)
-
-module _ (s area : List ℕ) (count : ℕ) (w : List ℕ) where
-  abbrev pub checkRefusal : Option Refusal
-  checkRefusal = refusalOf (reading s) (checkTests area count w)
-
-  -- A walk that the check finds clear avoids the forbidden paths of the area ...
-  pub clear-avoids : checking s area count w ≡ Clear → Avoids (spelled count area) w
-  clear-avoids e = go (reading s) e
-    where
-      by-tests : (b : Book) (o : Option Refusal) → refusalBy (checkTests area count w b) ≡ o → verdict o (occurrence (spelled count area) w) ≡ Clear → Avoids (spelled count area) w
-      by-tests b (some q) is h = absurd (let z : _≡_ {A = ℕ} 0 1 = cc in omega arith)
-      by-tests b none is h =
-          let ok = none→hold (checkTests area count w b) is .1 .0 in
-          clear→Avoids (spelled count area) w (sizes (b .count) (spelled count area) (valid→Valid (b .count) area count ok .paths)) h
-
-      go : (r : Reading) → checkingOf r area count w ≡ Clear → Avoids (spelled count area) w
-      go (Reading.accepted b) h = by-tests b (refusalBy (checkTests area count w b)) refl h
-      go (Reading.refused q) h = absurd (let z : _≡_ {A = ℕ} 0 1 = cc in omega arith)
-
-  -- ... and one that avoids them is found clear, where nothing is refused.
-  pub avoids-clear : checkRefusal ≡ none → Avoids (spelled count area) w → checking s area count w ≡ Clear
-  avoids-clear e h = ap (λ o. verdict o (occurrence (spelled count area) w)) e ∙ Avoids→clear (spelled count area) w h
-
--- With the area and the count of an accepted bind only 10 is refused, and the check is that of the known paths.
-pub bind-then-check : (s : List ℕ) (flags : ℕ) (area : List ℕ) (F : List (List ℕ)) (f : Filled s flags area F) (w : List ℕ)
-    → checking s (areaAfter (binding s flags area) area) (length F) w ≡ verdict (refusalBy (test 10 (checkable (graph (f .book)) w) ∷ [])) (occurrence F w)
-bind-then-check s flags area F f w =
-    let after = areaAfter (binding s flags area) area in
-    let held : List Test = test 8 (leb areaSize (length after)) ∷ test 9 (valid (f .book .count) after (length F)) ∷ [] in
-    ap (λ r. checkingOf r after (length F) w) (f .read)
-    ∙ ap₂ (λ o G. verdict o (occurrence G w))
-    (first-of-append held (test 10 (checkable (graph (f .book)) w) ∷ []) (hold→none held (le-leb areaSize (length after) (f .long), (f .validity, tt)))) (f .spells)

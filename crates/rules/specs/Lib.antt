@@ -1,10 +1,8 @@
 pub mod Binding
 pub mod Area
-pub mod Checking
 pub mod Operations
 pub mod Sets
 pub mod AreaLaws
 pub mod BindingLaws
 pub mod ValidLaws
-pub mod CheckLaws
 pub mod Laws

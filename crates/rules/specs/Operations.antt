@@ -1,4 +1,4 @@
--- What the operations answer, and what they leave in the runs area.
+-- What binding answers, and what it leaves in the runs area.
 use Prim.Native.Nat.{ℕ}
 use mathlib.Core.List.{List, [], _∷_, _++_}
 use mathlib.Core.Option.{Option, none, some}
@@ -6,14 +6,12 @@ use lib.Dec.{leb}
 use lib.ListN.{length, drop}
 use Rattle.book.specs.declared.Refusal.{Refusal}
 use Rattle.book.specs.Refusal.{Test, test}
-use Rattle.book.specs.Book.{Book, graph}
+use Rattle.book.specs.Book.{Book}
 use Rattle.book.specs.Reading.{Reading, reading, refusalOf, bookIn}
 use Rattle.rules.specs.declared.Bound.{Bound}
-use Rattle.rules.specs.declared.Checked.{Checked}
 use Rattle.rules.specs.Binding.{known}
-use Rattle.rules.specs.Area.{written, spelled, valid}
+use Rattle.rules.specs.Area.{written}
 use Rattle.limits.specs.Limits.{areaSize}
-use Rattle.rules.specs.Checking.{occurrence, checkable}
 
 -- Binding: the forbidden set, or the refusal.
 pub data Binding : Type 0 where
@@ -42,18 +40,3 @@ boundAs (refused r) = Bound.Refused r
 abbrev pub areaAfter : Binding → List ℕ → List ℕ
 areaAfter (bound F) area = written F ++ drop areaSize area
 areaAfter (refused r) area = area
-
--- The check of a walk.
-abbrev pub verdict : Option Refusal → Checked → Checked
-verdict none c = c
-verdict (some r) c = Checked.Refused r
-
-abbrev pub checkTests : List ℕ → ℕ → List ℕ → Book → List Test
-checkTests area count w b =
-    test 8 (leb areaSize (length area)) ∷ test 9 (valid (b .count) area count) ∷ test 10 (checkable (graph b) w) ∷ []
-
-abbrev pub checkingOf : Reading → List ℕ → ℕ → List ℕ → Checked
-checkingOf r area count w = verdict (refusalOf r (checkTests area count w)) (occurrence (spelled count area) w)
-
-abbrev pub checking : List ℕ → List ℕ → ℕ → List ℕ → Checked
-checking s area count w = checkingOf (reading s) area count w

@@ -1,13 +1,13 @@
 -- Laws of valid areas: what one holds, and that an area written with paths by the book's rules is one.
-use Prim.Native.Nat.{ℕ, zero, suc, _-_, _*_, _≤_, _<_}
+use Prim.Native.Nat.{ℕ, _-_, _≤_}
 use mathlib.Core.Bool.{Bool, true, _&&_}
 use mathlib.Core.List.{List, [], _∷_, _++_, append-assoc, map}
 use mathlib.Core.Path.{_≡_, refl, sym, ap, ap₂, _∙_}
 use native.Mathlib.Omega.{arith}
-use borrow.Author.Tests.{leb-true, le-leb, lt-ltb}
+use borrow.Author.Tests.{leb-true, le-leb}
 use lib.Dec.{leb}
-use lib.ListN.{length, getD, take, drop, replicate, length-drop}
-use lib.Seq.{take-at, length-take-le}
+use lib.ListN.{length, getD, take, replicate}
+use lib.Seq.{take-at}
 use Rattle.lists.specs.Test.{all, and-true}
 use Rattle.walks.specs.Avoid.{same}
 use Rattle.book.specs.Book.{All, IsPath, isPath}

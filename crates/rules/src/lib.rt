@@ -1,10 +1,9 @@
-// Rule sets: which apply to a batch, the forbidden paths that are known then, and the check of a walk against them.
+// Rule sets: which apply to a batch, and the forbidden paths that are known then.
 ghost use mathlib.Core.Path.{_≡_};
-ghost use Rattle.rules.specs.Operations.{binding, boundAs, areaAfter, checking};
+ghost use Rattle.rules.specs.Operations.{binding, boundAs, areaAfter};
 
 mod area;
 mod binding;
-mod walk;
 
 pub use area::valid;
 pub use binding::gather;
@@ -16,18 +15,9 @@ use limits::MOST_SETS;
 use limits::NO_ARC;
 use limits::PAIRS;
 use lists::copy;
-pub use walk::first_occurrence;
-pub use walk::is_walk;
 
 pub enum Bound {
     Known(usize),
-    Refused(Refusal),
-}
-
-// A walk is clear, or a forbidden path occurs in it: the place of its first vertex, and its length.
-pub enum Checked {
-    Clear,
-    Occurs(usize, usize),
     Refused(Refusal),
 }
 
@@ -50,32 +40,6 @@ pub fn bind(bytes: &[u8], flags: u16, area: &mut [u8]) -> Bound
             let n = gather(&needed, &owners, &entries, counts.paths, flags, &mut known);
             copy(&known, 0, area, 0, AREA);
             Bound::Known(n)
-        }
-    }
-}
-
-// Checks a walk against the forbidden paths of a runs area.
-pub fn check(bytes: &[u8], area: &[u8], count: usize, walk: &[u8]) -> Checked
-    ensures { λ r. ⌜ r ≡ checking (now (bytes .entry)) (now (area .entry)) count (now (walk .entry)) ⌝ }
-{
-    let mut weights = [NO_ARC; PAIRS];
-    let mut needed = [0u16; MOST_SETS];
-    let mut owners = [0u8; MOST_PATHS];
-    let mut entries = [0u8; AREA];
-    let read = book::load(bytes, &mut weights, &mut needed, &mut owners, &mut entries);
-    match read {
-        Answer::Refused(r) => Checked::Refused(r),
-        Answer::Read(counts) => {
-            if area.len() < AREA {
-                return Checked::Refused(Refusal::Area);
-            }
-            if !valid(area, count, counts.vertices) {
-                return Checked::Refused(Refusal::Invalid);
-            }
-            if !is_walk(&weights, counts.vertices, walk) {
-                return Checked::Refused(Refusal::NotAWalk);
-            }
-            first_occurrence(area, count, walk)
         }
     }
 }

@@ -2,7 +2,7 @@
 use mathlib.Core.List.{List, _++_}
 use mathlib.Core.Logic.{by-cases}
 use mathlib.Core.Path.{_≡_, refl, sym, ap, _∙_}
-use Prim.Native.Nat.{ℕ, _*_, _<_, _≤_}
+use Prim.Native.Nat.{ℕ, _*_, _≤_}
 use native.Mathlib.Omega.{arith}
 use native.Mathlib.Decide.{decLt}
 use lib.ListN.{length, take, drop, replicate, length-replicate, getD-replicate, List·getD-eq-default}
@@ -10,7 +10,7 @@ use lib.Seq.{length-take-le, length-front, take-at}
 use Rattle.limits.specs.Limits.{mostVertices}
 use Rattle.walks.specs.Graph.{Graph}
 use Rattle.walks.specs.Weights.{Weights}
-use Rattle.distances.specs.Table.{at, inf, passes}
+use Rattle.distances.specs.Table.{inf, passes}
 use Rattle.automaton.specs.Area.{Spells}
 use Rattle.automaton.specs.Count.{statesOf}
 use Rattle.automaton.specs.Built.{Built}

@@ -1,7 +1,7 @@
 // The whole search, from a graph's table of weights and forbidden paths as bytes to the best walk, in work tables for the states that there
 // can be.
 ghost use mathlib.Core.Path.{_≡_};
-ghost use Prim.Native.Nat.{ℕ, _<_, _≤_};
+ghost use Prim.Native.Nat.{_<_, _≤_};
 ghost use lib.ListN.{length};
 ghost use Rattle.walks.specs.Graph.{Graph};
 ghost use Rattle.walks.specs.Weights.{Weights};

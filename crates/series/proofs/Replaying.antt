@@ -17,7 +17,7 @@ use Rattle.trials.specs.declared.Begun.{Begun}
 use Rattle.trials.specs.declared.Reported.{Reported}
 use Rattle.series.specs.declared.Made.{Made}
 use Rattle.trial_rules.specs.Trials.{Report, State, beginRefusal, after, run, stateAfter}
-use Rattle.trials.specs.Operations.{Leaves, leaves, begunAs, firstState, beginningOf, beginning, reporting, recordIn}
+use Rattle.trials.specs.Operations.{Leaves, answering, begunAs, firstState, beginningOf, beginning, reporting, recordIn}
 use Rattle.series.specs.Reports.{isReport, reportIn, sizeOf, reportsOf}
 use Rattle.series.specs.ReportsLaws.{reports-cons, reports-none}
 use Rattle.series.specs.Making.{madeIf, making, replayingOf, replaying}
@@ -56,15 +56,15 @@ module _ (s : List ℕ) (flags start end : ℕ) (reports paths₀ walk₀ : List
     held : l ≡ leavesOf state
     leads : run (graph book) (chosen (graph book)) state (reportsOf (drop at reports)) ≡ stateAfter (opened s book read flags start end paths₀ walk₀ begins) (reportsOf reports)
 
-  pub replayed-begin : (m : Leaves Begun) (r : Record) → m ≡ beginning s flags start end paths₀ walk₀ → m .answer ≡ Begun.Record r → Replayed (leaves r (m .paths) (m .walk)) 0
+  pub replayed-begin : (m : Leaves Begun) (r : Record) → m ≡ beginning s flags start end paths₀ walk₀ → m .answer ≡ Begun.Record r → Replayed (answering r (m .paths) (m .walk)) 0
   replayed-begin m r e is = go (reading s) refl e
     where
-      go : (y : Reading) → reading s ≡ y → m ≡ beginningOf y flags start end paths₀ walk₀ → Replayed (leaves r (m .paths) (m .walk)) 0
+      go : (y : Reading) → reading s ≡ y → m ≡ beginningOf y flags start end paths₀ walk₀ → Replayed (answering r (m .paths) (m .walk)) 0
       go (refused z) read e = absurd (no-record (sym (ap (λ (l : Leaves Begun). l .answer) e) ∙ is))
       go (accepted b) read e = on (beginRefusal (graph b) start end paths₀ walk₀) refl e
         where
           on : (o : Option Refusal) → beginRefusal (graph b) start end paths₀ walk₀ ≡ o → m ≡ begunAs o (firstState b flags start end paths₀ walk₀) paths₀ walk₀
-              → Replayed (leaves r (m .paths) (m .walk)) 0
+              → Replayed (answering r (m .paths) (m .walk)) 0
           on (some z) begins e = absurd (no-record (sym (ap (λ (l : Leaves Begun). l .answer) e) ∙ is))
           on none begins e =
               let σ = firstState b flags start end paths₀ walk₀ in
@@ -77,7 +77,7 @@ module _ (s : List ℕ) (flags start end : ℕ) (reports paths₀ walk₀ : List
                 state = σ;
                 done = [];
                 keeps = invariant-begin (opened s b read flags start end paths₀ walk₀ begins);
-                held = ap₂ (λ (x : Record) (l : Leaves Begun). leaves x (l .paths) (l .walk)) r-is e;
+                held = ap₂ (λ (x : Record) (l : Leaves Begun). answering x (l .paths) (l .walk)) r-is e;
                 leads = refl;
               }
 
@@ -92,12 +92,12 @@ module _ (s : List ℕ) (flags start end : ℕ) (reports paths₀ walk₀ : List
     rest = drop at reports
 
     -- At the end of the list the replay is done.
-    pub replayed-end : isReport (drop at reports) ≡ false → leaves (Begun.Record (l .answer)) (l .paths) (l .walk) ≡ replaying s flags start end reports paths₀ walk₀
+    pub replayed-end : isReport (drop at reports) ≡ false → answering (Begun.Record (l .answer)) (l .paths) (l .walk) ≡ replaying s flags start end reports paths₀ walk₀
     unfolding run
     replayed-end e =
         let last : p .state ≡ stateAfter (opened s b (p .read) flags start end paths₀ walk₀ (p .begins)) (reportsOf reports) =
         sym (ap (run g (chosen g) (p .state)) (reports-none rest e)) ∙ p .leads in
-        ap (λ (x : Leaves Record). leaves (Begun.Record (x .answer)) (x .paths) (x .walk)) (p .held ∙ ap leavesOf last)
+        ap (λ (x : Leaves Record). answering (Begun.Record (x .answer)) (x .paths) (x .walk)) (p .held ∙ ap leavesOf last)
         ∙ sym (replay-leaves s b (p .read) flags start end paths₀ walk₀ (p .begins) reports)
 
     -- One more report.
@@ -121,30 +121,30 @@ module _ (s : List ℕ) (flags start end : ℕ) (reports paths₀ walk₀ : List
         }
 
     pub replayed-made : (m : Leaves Made) → m ≡ making s (l .answer) reports at (l .paths) (l .walk) → (x : Reported) (n : ℕ) → m .answer ≡ Made.Report x n
-        → Replayed (leaves (recordIn x) (m .paths) (m .walk)) n × (n ≡ at + sizeOf (drop at reports))
+        → Replayed (answering (recordIn x) (m .paths) (m .walk)) n × (n ≡ at + sizeOf (drop at reports))
     replayed-made m e x n is = go (isReport rest) refl e
       where
         made : Leaves Reported
         made = reporting s (l .answer) (l .paths) (l .walk) (reportIn rest)
 
         go : (t : Bool) → isReport rest ≡ t → m ≡ madeIf t made (at + sizeOf rest) (l .paths) (l .walk)
-            → Replayed (leaves (recordIn x) (m .paths) (m .walk)) n × (n ≡ at + sizeOf rest)
+            → Replayed (answering (recordIn x) (m .paths) (m .walk)) n × (n ≡ at + sizeOf rest)
         go false u e = absurd (no-end (sym is ∙ ap (λ (y : Leaves Made). y .answer) e))
         go true u e =
             let both : Made.Report x n ≡ Made.Report (made .answer) (at + sizeOf rest) = sym is ∙ ap (λ (y : Leaves Made). y .answer) e in
             let x-is : x ≡ made .answer = cc in
             let n-is : n ≡ at + sizeOf rest = cc in (
-              subst (λ k. Replayed (leaves (recordIn x) (m .paths) (m .walk)) k) (sym n-is)
-                  (subst (λ y. Replayed y (at + sizeOf rest)) (sym (ap₂ (λ (y : Reported) (z : Leaves Made). leaves (recordIn y) (z .paths) (z .walk)) x-is e)) (replayed-step u)),
+              subst (λ k. Replayed (answering (recordIn x) (m .paths) (m .walk)) k) (sym n-is)
+                  (subst (λ y. Replayed y (at + sizeOf rest)) (sym (ap₂ (λ (y : Reported) (z : Leaves Made). answering (recordIn y) (z .paths) (z .walk)) x-is e)) (replayed-step u)),
               n-is,
             )
 
     pub replayed-last : (m : Leaves Made) → m ≡ making s (l .answer) reports at (l .paths) (l .walk) → m .answer ≡ Made.End
-        → leaves (Begun.Record (l .answer)) (m .paths) (m .walk) ≡ replaying s flags start end reports paths₀ walk₀
+        → answering (Begun.Record (l .answer)) (m .paths) (m .walk) ≡ replaying s flags start end reports paths₀ walk₀
     replayed-last m e is = go (isReport rest) refl e
       where
         go : (t : Bool) → isReport rest ≡ t
             → m ≡ madeIf t (reporting s (l .answer) (l .paths) (l .walk) (reportIn rest)) (at + sizeOf rest) (l .paths) (l .walk)
-            → leaves (Begun.Record (l .answer)) (m .paths) (m .walk) ≡ replaying s flags start end reports paths₀ walk₀
+            → answering (Begun.Record (l .answer)) (m .paths) (m .walk) ≡ replaying s flags start end reports paths₀ walk₀
         go true u e = absurd (no-end (sym (ap (λ (y : Leaves Made). y .answer) e) ∙ is))
-        go false u e = ap (λ (y : Leaves Made). leaves (Begun.Record (l .answer)) (y .paths) (y .walk)) e ∙ replayed-end u
+        go false u e = ap (λ (y : Leaves Made). answering (Begun.Record (l .answer)) (y .paths) (y .walk)) e ∙ replayed-end u

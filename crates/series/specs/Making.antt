@@ -12,16 +12,16 @@ use Rattle.trials.specs.declared.Begun.{Begun}
 use Rattle.trials.specs.declared.Reported.{Reported}
 use Rattle.series.specs.declared.Made.{Made}
 use Rattle.series.specs.declared.Made.the-variants.{Report, End}
-use Rattle.trials.specs.Operations.{Leaves, leaves, begunAs, firstState, reporting}
+use Rattle.trials.specs.Operations.{Leaves, answering, begunAs, firstState, reporting}
 use Rattle.series.specs.Reports.{isReport, reportIn, sizeOf, reportsOf}
 
 -- What is made of a report that ends at a place.
 abbrev pub madeOf : Leaves Reported → ℕ → Leaves Made
-madeOf l end = leaves (Report (l .answer) end) (l .paths) (l .walk)
+madeOf l end = answering (Report (l .answer) end) (l .paths) (l .walk)
 
 abbrev pub madeIf : Bool → Leaves Reported → ℕ → List ℕ → List ℕ → Leaves Made
 madeIf true l end paths walk = madeOf l end
-madeIf false l end paths walk = leaves End paths walk
+madeIf false l end paths walk = answering End paths walk
 
 abbrev pub making : List ℕ → Record → List ℕ → ℕ → List ℕ → List ℕ → Leaves Made
 making s r reports at paths walk =

@@ -12,7 +12,7 @@ use Rattle.trial_record.specs.declared.Record.{Record}
 use Rattle.trials.specs.declared.Begun.{Begun}
 use Rattle.trials.specs.declared.Reported.{Reported}
 use Rattle.trial_rules.specs.Trials.{Report, State, pathArea, beginRefusal, refusal, Valid, unless, step, after, run, Begin, begun, stateAfter, acceptedOf}
-use Rattle.trials.specs.Operations.{Leaves, leaves, begunAs, beginningOf, beginning, reportedAs, reportingOf, reporting, recordIn}
+use Rattle.trials.specs.Operations.{Leaves, answering, begunAs, beginningOf, beginning, reportedAs, reportingOf, reporting, recordIn}
 use Rattle.trials.specs.OperationLaws.{same-step}
 use Rattle.series.specs.Making.{replayingOf, replaying}
 use Rattle.series.specs.Reports.{reportsOf}
@@ -23,13 +23,13 @@ use Rattle.trial_rules.specs.Oracle.{OracleSet, TrueOracle, OracleOutcome, orac
 
 -- What a state leaves: its record, and every byte of both areas.
 abbrev pub leavesOf : State → Leaves Record
-leavesOf σ = leaves (σ .rec) (pathArea σ) (σ .area)
+leavesOf σ = answering (σ .rec) (pathArea σ) (σ .area)
 
 -- A report on what begin or the report before it left.
 abbrev pub reportOn : List ℕ → Leaves Record → Report → Leaves Record
 reportOn s l ρ =
     let m = reporting s (l .answer) (l .paths) (l .walk) ρ in
-    leaves (recordIn (m .answer)) (m .paths) (m .walk)
+    answering (recordIn (m .answer)) (m .paths) (m .walk)
 
 -- A list of them (01: each gets the begin's book, and record and areas as begin or the report before it left them).
 unfoldable pub reportsOn : List ℕ → Leaves Record → List Report → Leaves Record
@@ -52,7 +52,7 @@ module _ (s : List ℕ) (b : Book) (read : reading s ≡ accepted b) where
       ap next (ap (λ x. reportingOf x (σ .rec) (pathArea σ) (σ .area) ρ) read ∙ same-step b σ v ρ) ∙ go (refusal (graph b) σ ρ)
     where
       next : Leaves Reported → Leaves Record
-      next m = leaves (recordIn (m .answer)) (m .paths) (m .walk)
+      next m = answering (recordIn (m .answer)) (m .paths) (m .walk)
 
       σ′ : State
       σ′ = step (graph b) (chosen (graph b)) σ ρ
@@ -66,7 +66,7 @@ module _ (s : List ℕ) (b : Book) (read : reading s ≡ accepted b) where
     abbrev pub opened : Begin
     opened = trialsOf b (reading-is-book s b read .well-formed) flags start end paths walk ok
 
-    pub begin-leaves : beginning s flags start end paths walk ≡ leaves (Begun.Record (begun opened .rec)) (pathArea (begun opened)) (begun opened .area)
+    pub begin-leaves : beginning s flags start end paths walk ≡ answering (Begun.Record (begun opened .rec)) (pathArea (begun opened)) (begun opened .area)
     begin-leaves =
         ap (λ x. beginningOf x flags start end paths walk) read ∙ ap (λ o. begunAs o (begun opened) paths walk) ok
 
@@ -86,7 +86,7 @@ module _ (s : List ℕ) (b : Book) (read : reading s ≡ accepted b) where
     -- ... and so after every replay.
     pub replay-leaves : (reports : List ℕ)
         → replaying s flags start end reports paths walk
-        ≡ leaves (Begun.Record (stateAfter opened (reportsOf reports) .rec)) (pathArea (stateAfter opened (reportsOf reports))) (stateAfter opened (reportsOf reports) .area)
+        ≡ answering (Begun.Record (stateAfter opened (reportsOf reports) .rec)) (pathArea (stateAfter opened (reportsOf reports))) (stateAfter opened (reportsOf reports) .area)
     replay-leaves reports =
         ap (λ x. replayingOf x flags start end reports paths walk) read
         ∙ ap (λ o. begunAs o (stateAfter opened (reportsOf reports)) paths walk) ok

@@ -4,7 +4,7 @@ ghost use mathlib.Core.Path.{_≡_};
 ghost use mathlib.Core.Bool.{true};
 ghost use Prim.Native.Nat.{_+_, _≤_};
 ghost use lib.ListN.{length, drop};
-ghost use Rattle.trials.specs.Operations.{leaves, recordIn};
+ghost use Rattle.trials.specs.Operations.{answering, recordIn};
 ghost use Rattle.series.specs.Reports.{isReport, sizeOf};
 ghost use Rattle.series.specs.Making.{making, replaying};
 use trial_record::Record;
@@ -62,7 +62,7 @@ pub fn make(
     paths: &mut [u8],
     walk: &mut [u8],
 ) -> Made
-    ensures { λ r. ⌜ leaves r (now (paths .exit)) (now (walk .exit)) ≡ making (now (bytes .entry)) rec (now (reports .entry)) at (now (paths .entry)) (now (walk .entry)) ⌝ }
+    ensures { λ r. ⌜ answering r (now (paths .exit)) (now (walk .exit)) ≡ making (now (bytes .entry)) rec (now (reports .entry)) at (now (paths .entry)) (now (walk .entry)) ⌝ }
 {
     if !is_report(reports, at) {
         return Made::End;
@@ -95,7 +95,7 @@ pub fn replay(
     paths: &mut [u8],
     walk: &mut [u8],
 ) -> Begun
-    ensures { λ r. ⌜ leaves r (now (paths .exit)) (now (walk .exit)) ≡ replaying (now (bytes .entry)) flags start end (now (reports .entry)) (now (paths .entry)) (now (walk .entry)) ⌝ }
+    ensures { λ r. ⌜ answering r (now (paths .exit)) (now (walk .exit)) ≡ replaying (now (bytes .entry)) flags start end (now (reports .entry)) (now (paths .entry)) (now (walk .entry)) ⌝ }
 {
     let begun = begin(bytes, flags, start, end, paths, walk);
     let Begun::Record(first) = begun else {

@@ -22,7 +22,7 @@ use Rattle.trial_record.specs.Steps.{fresh, replanned, Recordable}
 use Rattle.trial_rules.specs.Trials.{beginTests, beginRefusal}
 use Rattle.trial_rules.specs.Accepted.{begin-accepted}
 use Rattle.trials.specs.declared.Begun.{Begun}
-use Rattle.trials.specs.Operations.{leaves, begunAs, firstState, beginningOf}
+use Rattle.trials.specs.Operations.{answering, begunAs, firstState, beginningOf}
 use Rattle.trials.specs.Replanning.{Held, held, chosen-planner, known-set, trialsOf, withAnswer}
 
 module _ (b : Book) (flags start end : ℕ) (paths walk : List ℕ) where
@@ -31,7 +31,7 @@ module _ (b : Book) (flags start end : ℕ) (paths walk : List ℕ) where
   decided o e = ap (λ y. begunAs y (firstState b flags start end paths walk) paths walk) (sym e)
 
   pub begin-fails : {q : Refusal} → Fails (beginTests (graph b) start end paths walk) q
-      → leaves (Begun.Refused q) paths walk ≡ beginningOf (accepted b) flags start end paths walk
+      → answering (Begun.Refused q) paths walk ≡ beginningOf (accepted b) flags start end paths walk
   begin-fails {q} f = decided (some q) (first-fails f)
 
   module _
@@ -54,9 +54,9 @@ module _ (b : Book) (flags start end : ℕ) (paths walk : List ℕ) where
       copied : paste paths 0 (drop 0 area) areaSize ≡ written (known flags (b .sets)) ++ drop areaSize paths
       copied = ap (λ l. l ++ drop areaSize paths) (take-all areaSize area (omega (arith, gathered-length flags b w counted filled)) ∙ filled)
 
-      pub begun : leaves (Begun.Record (replanned (fresh start end n) f)) (paste paths 0 (drop 0 area) areaSize) new ≡ beginningOf (accepted b) flags start end paths walk
+      pub begun : answering (Begun.Record (replanned (fresh start end n) f)) (paste paths 0 (drop 0 area) areaSize) new ≡ beginningOf (accepted b) flags start end paths walk
       begun =
-          ap (λ (z : Record). leaves (Begun.Record z) (paste paths 0 (drop 0 area) areaSize) new)
+          ap (λ (z : Record). answering (Begun.Record z) (paste paths 0 (drop 0 area) areaSize) new)
           (holds .rec-is (fresh start end n) ∙ ap (λ k. withAnswer (graph b) (fresh start end k) (chosen (graph b) (known flags (b .sets)) start end)) counted)
-          ∙ ap₂ (leaves (Begun.Record (firstState b flags start end paths walk .rec))) copied (holds .area-is)
+          ∙ ap₂ (answering (Begun.Record (firstState b flags start end paths walk .rec))) copied (holds .area-is)
           ∙ decided none unrefused

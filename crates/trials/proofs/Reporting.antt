@@ -32,7 +32,7 @@ use Rattle.trials.specs.declared.Reported.{Reported}
 use Rattle.judging.specs.declared.Judged.the-variants.{Standing, Refused}
 use Rattle.trial_rules.specs.Trials.{Report, passed, failed, State, ForbiddenSet, passedIn, stageOf, litresOf, lengthOf, step}
 use Rattle.trial_record.specs.Steps.{passedOf, failedOf, replanned, Recordable}
-use Rattle.trials.specs.Operations.{leaves, reportedAs, reportingOf}
+use Rattle.trials.specs.Operations.{answering, reportedAs, reportingOf}
 use Rattle.judging.specs.Judging.{stateOf, judgeTests, saidTests, reportTests, judgedAs}
 use Rattle.trials.specs.OperationLaws.{Passed, passed-tests}
 use Rattle.trial_rules.specs.Tests.{set-paths, set-once}
@@ -61,7 +61,7 @@ module _ (b : Book) (r : Record) (paths walk : List ℕ) where
   answered ρ o e = ap (λ y. reportedAs y (step g (chosen g) σ ρ) r paths walk) (sym e)
 
   pub refused : (x : Refusal) → Refused x ≡ judgedAs (refusalBy (judgeTests r paths walk b)) → (ρ : Report)
-      → leaves (Reported.Refused x r) paths walk ≡ reportingOf (accepted b) r paths walk ρ
+      → answering (Reported.Refused x r) paths walk ≡ reportingOf (accepted b) r paths walk ρ
   refused x e ρ = answered ρ (some x) (first-kept (judgeTests r paths walk b) (saidTests r paths walk ρ b) x (judged-refused (refusalBy (judgeTests r paths walk b)) x e))
 
   module _ (stands : Standing ≡ judgedAs (refusalBy (judgeTests r paths walk b))) where
@@ -73,14 +73,14 @@ module _ (b : Book) (r : Record) (paths walk : List ℕ) where
     pub walk-fits : r .length ≤ length walk
     walk-fits = let a = passed-tests b r paths walk passed (left-over passed) .accepts in omega (arith, a .valid .short, a .area-fits)
 
-    pub has-passed : leaves (Reported.Accepted (passedOf r)) paths walk ≡ reportingOf (accepted b) r paths walk passed
+    pub has-passed : answering (Reported.Accepted (passedOf r)) paths walk ≡ reportingOf (accepted b) r paths walk passed
     has-passed =
-        ap (λ l. leaves (Reported.Accepted (passedOf r)) l walk) (sym (passed-tests b r paths walk passed (left-over passed) .area-is))
+        ap (λ l. answering (Reported.Accepted (passedOf r)) l walk) (sym (passed-tests b r paths walk passed (left-over passed) .area-is))
         ∙ answered passed none (left-over passed)
 
     module _ (p : List ℕ) where
       pub said-fails : {q : Refusal} → Fails (saidTests r paths walk (failed p) b) q
-          → leaves (Reported.Refused q r) paths walk ≡ reportingOf (accepted b) r paths walk (failed p)
+          → answering (Reported.Refused q r) paths walk ≡ reportingOf (accepted b) r paths walk (failed p)
       said-fails {q} f = answered (failed p) (some q) (left-over (failed p) ∙ first-fails f)
 
       pub ready : Hold (saidTests r paths walk (failed p) b) → refusalBy (reportTests r paths walk (failed p) b) ≡ none
@@ -165,7 +165,7 @@ module _ (b : Book) (w : WellFormed b) (r : Record) (paths walk p : List ℕ) (e
       pub walk-short : Recordable f
       walk-short = holds .short
 
-      pub has-failed : leaves (Reported.Accepted (replanned (failedOf r) f)) paths′ new ≡ reportingOf (accepted b) r paths walk (failed p)
+      pub has-failed : answering (Reported.Accepted (replanned (failedOf r) f)) paths′ new ≡ reportingOf (accepted b) r paths walk (failed p)
       has-failed =
           let q = chosen (graph b) F′ (r .start) (r .end) in
           let counts : ℕ → ℕ → ℕ → Record =
@@ -183,7 +183,7 @@ module _ (b : Book) (w : WellFormed b) (r : Record) (paths walk p : List ℕ) (e
           } in
           let one-more-failed : r .failed + 1 ≡ suc (r .failed) = omega arith in
           let none-passed : r .passed ≡ 0 = h .accepts .valid .passed ∙ ap passedIn (h .accepts .stage) in
-          ap (λ (z : Record). leaves (Reported.Accepted z) paths′ new)
+          ap (λ (z : Record). answering (Reported.Accepted z) paths′ new)
           (holds .rec-is (failedOf r) ∙ ap (λ n. counts n (r .failed + 1) (r .passed)) (sym next-length) ∙ ap₂ (counts (length F′)) one-more-failed none-passed)
-          ∙ ap₂ (leaves (Reported.Accepted (step (graph b) (chosen (graph b)) (stateOf r paths walk) (failed p) .rec))) are (holds .area-is)
+          ∙ ap₂ (answering (Reported.Accepted (step (graph b) (chosen (graph b)) (stateOf r paths walk) (failed p) .rec))) are (holds .area-is)
           ∙ answered b r paths walk (failed p) none e

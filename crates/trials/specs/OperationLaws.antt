@@ -16,7 +16,7 @@ use Rattle.book.specs.RefusalLaws.{none→hold}
 use Rattle.book.specs.Book.{Book, graph}
 use Rattle.book.specs.Reading.{accepted}
 use Rattle.rules.specs.Area.{written, blocks, spelled, valid}
-use Rattle.limits.specs.Limits.{areaSize, longest}
+use Rattle.limits.specs.Limits.{areaSize}
 use Rattle.rules.specs.AreaLaws.{length-blocks}
 use Rattle.rules.specs.ValidLaws.{valid→Valid, written-length, written-valid, written-spells}
 use Rattle.automaton.specs.Chosen.{chosen}

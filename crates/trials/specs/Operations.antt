@@ -19,14 +19,14 @@ pub record Leaves (A : Type 0) : Type 0 where
   pub paths : List ℕ
   pub walk : List ℕ
 
-abbrev pub leaves : {A : Type 0} → A → List ℕ → List ℕ → Leaves A
-leaves a paths walk = record { answer = a; paths = paths; walk = walk }
+abbrev pub answering : {A : Type 0} → A → List ℕ → List ℕ → Leaves A
+answering a paths walk = record { answer = a; paths = paths; walk = walk }
 
 -- ---- begin
 -- A refusal writes nothing.
 abbrev pub begunAs : Option Refusal → State → List ℕ → List ℕ → Leaves Begun
-begunAs none σ paths walk = leaves (Begun.Record (σ .rec)) (pathArea σ) (σ .area)
-begunAs (some x) σ paths walk = leaves (Begun.Refused x) paths walk
+begunAs none σ paths walk = answering (Begun.Record (σ .rec)) (pathArea σ) (σ .area)
+begunAs (some x) σ paths walk = answering (Begun.Refused x) paths walk
 
 -- The state after the rule of begin, in a book.
 abbrev pub firstState : Book → ℕ → ℕ → ℕ → List ℕ → List ℕ → State
@@ -42,8 +42,8 @@ beginning s flags start end paths walk = beginningOf (reading s) flags start end
 -- ---- a report
 -- A refusal writes nothing, and hands the record back as it came.
 abbrev pub reportedAs : Option Refusal → State → Record → List ℕ → List ℕ → Leaves Reported
-reportedAs none σ r paths walk = leaves (Reported.Accepted (σ .rec)) (pathArea σ) (σ .area)
-reportedAs (some x) σ r paths walk = leaves (Reported.Refused x r) paths walk
+reportedAs none σ r paths walk = answering (Reported.Accepted (σ .rec)) (pathArea σ) (σ .area)
+reportedAs (some x) σ r paths walk = answering (Reported.Refused x r) paths walk
 
 abbrev pub reportingOf : Reading → Record → List ℕ → List ℕ → Report → Leaves Reported
 reportingOf x r paths walk ρ =

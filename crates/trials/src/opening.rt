@@ -3,7 +3,7 @@ ghost use mathlib.Core.Path.{_≡_};
 ghost use Rattle.book.specs.Book.{Book};
 ghost use Rattle.book.specs.Reading.{accepted};
 ghost use Rattle.book.specs.Tables.{IsGraph, IsSets};
-ghost use Rattle.trials.specs.Operations.{leaves, beginningOf, beginning};
+ghost use Rattle.trials.specs.Operations.{answering, beginningOf, beginning};
 use crate::Begun;
 use book::Answer;
 use book::Refusal;
@@ -25,7 +25,7 @@ pub fn begin(
     paths: &mut [u8],
     walk: &mut [u8],
 ) -> Begun
-    ensures { λ r. ⌜ leaves r (now (paths .exit)) (now (walk .exit)) ≡ beginning (now (bytes .entry)) flags start end (now (paths .entry)) (now (walk .entry)) ⌝ }
+    ensures { λ r. ⌜ answering r (now (paths .exit)) (now (walk .exit)) ≡ beginning (now (bytes .entry)) flags start end (now (paths .entry)) (now (walk .entry)) ⌝ }
 {
     let mut weights = [NO_ARC; PAIRS];
     let mut needed = [0u16; MOST_SETS];
@@ -65,7 +65,7 @@ fn begin_in(
     walk: &mut [u8],
 ) -> Begun
     requires { ⌜ ((b : Book) × IsGraph b vertices (now weights) × IsSets b listed (now needed) (now owners) (now entries)) ⌝ }
-    ensures { λ r. ⌜ ((b : Book) → IsGraph b vertices (now (weights .entry)) → IsSets b listed (now (needed .entry)) (now (owners .entry)) (now (entries .entry)) → leaves r (now (paths .exit)) (now (walk .exit)) ≡ beginningOf (accepted b) flags start end (now (paths .entry)) (now (walk .entry))) ⌝ }
+    ensures { λ r. ⌜ ((b : Book) → IsGraph b vertices (now (weights .entry)) → IsSets b listed (now (needed .entry)) (now (owners .entry)) (now (entries .entry)) → answering r (now (paths .exit)) (now (walk .exit)) ≡ beginningOf (accepted b) flags start end (now (paths .entry)) (now (walk .entry))) ⌝ }
 {
     if paths.len() < AREA {
         return Begun::Refused(Refusal::Area);

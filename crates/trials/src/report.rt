@@ -4,14 +4,14 @@ ghost use mathlib.Core.Option.{none};
 ghost use Prim.Native.Nat.{_+_, _*_, _≤_};
 ghost use lib.ListN.{length, set};
 ghost use lib.Seq.{paste};
-ghost use Rattle.book.specs.Book.{Book, graph};
+ghost use Rattle.book.specs.Book.{Book};
 ghost use Rattle.book.specs.Reading.{accepted};
 ghost use Rattle.book.specs.Refusal.{refusalBy};
 ghost use Rattle.book.specs.Tables.{IsGraph};
 ghost use Rattle.limits.specs.Limits.{entrySize};
 ghost use Rattle.trials.specs.declared.Reported.the-variants.{Accepted};
 ghost use Rattle.trial_rules.specs.Trials.{passed, failed};
-ghost use Rattle.trials.specs.Operations.{leaves, reportingOf, reporting};
+ghost use Rattle.trials.specs.Operations.{answering, reportingOf, reporting};
 ghost use Rattle.judging.specs.Judging.{reportTests};
 use crate::Reported;
 use book::Answer;
@@ -29,7 +29,7 @@ use trial_record::Record;
 
 // The standing walk has passed.
 pub fn report_passed(bytes: &[u8], rec: Record, paths: &[u8], walk: &[u8]) -> Reported
-    ensures { λ r. ⌜ leaves r (now (paths .entry)) (now (walk .entry)) ≡ reporting (now (bytes .entry)) rec (now (paths .entry)) (now (walk .entry)) passed ⌝ }
+    ensures { λ r. ⌜ answering r (now (paths .entry)) (now (walk .entry)) ≡ reporting (now (bytes .entry)) rec (now (paths .entry)) (now (walk .entry)) passed ⌝ }
 {
     let mut weights = [NO_ARC; PAIRS];
     let mut flags = [0u16; MOST_SETS];
@@ -51,7 +51,7 @@ fn accept_passed(
     walk: &[u8],
 ) -> Reported
     requires { ⌜ ((b : Book) × IsGraph b vertices (now weights)) ⌝ }
-    ensures { λ r. ⌜ ((b : Book) → IsGraph b vertices (now (weights .entry)) → leaves r (now (paths .entry)) (now (walk .entry)) ≡ reportingOf (accepted b) rec (now (paths .entry)) (now (walk .entry)) passed) ⌝ }
+    ensures { λ r. ⌜ ((b : Book) → IsGraph b vertices (now (weights .entry)) → answering r (now (paths .entry)) (now (walk .entry)) ≡ reportingOf (accepted b) rec (now (paths .entry)) (now (walk .entry)) passed) ⌝ }
 {
     match judge(weights, vertices, rec, paths, walk) {
         Judged::Refused(r) => Reported::Refused(r, rec),
@@ -67,7 +67,7 @@ pub fn report_failed(
     walk: &mut [u8],
     named: &[u8],
 ) -> Reported
-    ensures { λ r. ⌜ leaves r (now (paths .exit)) (now (walk .exit)) ≡ reporting (now (bytes .entry)) rec (now (paths .entry)) (now (walk .entry)) (failed (now (named .entry))) ⌝ }
+    ensures { λ r. ⌜ answering r (now (paths .exit)) (now (walk .exit)) ≡ reporting (now (bytes .entry)) rec (now (paths .entry)) (now (walk .entry)) (failed (now (named .entry))) ⌝ }
 {
     let mut weights = [NO_ARC; PAIRS];
     let mut flags = [0u16; MOST_SETS];
@@ -90,7 +90,7 @@ fn accept_failed(
     named: &[u8],
 ) -> Reported
     requires { ⌜ ((b : Book) × IsGraph b vertices (now weights)) ⌝ }
-    ensures { λ r. ⌜ ((b : Book) → IsGraph b vertices (now (weights .entry)) → leaves r (now (paths .exit)) (now (walk .exit)) ≡ reportingOf (accepted b) rec (now (paths .entry)) (now (walk .entry)) (failed (now (named .entry)))) ⌝ }
+    ensures { λ r. ⌜ ((b : Book) → IsGraph b vertices (now (weights .entry)) → answering r (now (paths .exit)) (now (walk .exit)) ≡ reportingOf (accepted b) rec (now (paths .entry)) (now (walk .entry)) (failed (now (named .entry)))) ⌝ }
 {
     match judge(weights, vertices, rec, paths, walk) {
         Judged::Refused(r) => Reported::Refused(r, rec),
@@ -117,7 +117,7 @@ fn replan(
     named: &[u8],
 ) -> Record
     requires { ⌜ ((b : Book) × IsGraph b vertices (now weights) × (refusalBy (reportTests rec (now paths) (now walk) (failed (now named)) b) ≡ none)) ⌝ }
-    ensures { λ r. ⌜ ((b : Book) → IsGraph b vertices (now (weights .entry)) → refusalBy (reportTests rec (now (paths .entry)) (now (walk .entry)) (failed (now (named .entry))) b) ≡ none → leaves (Accepted r) (now (paths .exit)) (now (walk .exit)) ≡ reportingOf (accepted b) rec (now (paths .entry)) (now (walk .entry)) (failed (now (named .entry)))) ⌝ }
+    ensures { λ r. ⌜ ((b : Book) → IsGraph b vertices (now (weights .entry)) → refusalBy (reportTests rec (now (paths .entry)) (now (walk .entry)) (failed (now (named .entry))) b) ≡ none → answering (Accepted r) (now (paths .exit)) (now (walk .exit)) ≡ reportingOf (accepted b) rec (now (paths .entry)) (now (walk .entry)) (failed (now (named .entry)))) ⌝ }
 {
     enter(named, rec.known, paths);
     let next = rec.failed();

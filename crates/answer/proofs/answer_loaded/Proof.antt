@@ -5,7 +5,7 @@ use denote.Ref.{now}
 use mathlib.Core.Path.{_≡_, ap, subst, _∙_}
 use mathlib.Core.List.{List}
 use native.Mathlib.Omega.{arith}
-use Prim.Native.Nat.{ℕ, _≤_}
+use Prim.Native.Nat.{ℕ}
 use lib.ListN.{length, replicate, length-replicate}
 use Rattle.limits.specs.Limits.{longest}
 use Rattle.book.specs.Book.{Book, graph}

@@ -1,6 +1,5 @@
 -- `bind` meets its contract: a refusal is the book's or the area's, and else the area is that of the paths gathered.
 use mathlib.Core.Path.{_≡_, refl, sym, _∙_}
-use native.Mathlib.Omega.{arith}
 use denote.Ref.{now}
 use lib.ListN.{length}
 use Rattle.rules.specs.Area.{written}

@@ -7,7 +7,7 @@ use mathlib.Core.Path.{_≡_, refl, sym, subst}
 use lib.ListN.{length, drop}
 use Prim.Native.Nat.{ℕ, _+_, _-_}
 use Rattle.trial_record.specs.declared.Record.{Record}
-use Rattle.trials.specs.Operations.{leaves, recordIn}
+use Rattle.trials.specs.Operations.{answering, recordIn}
 use Rattle.series.specs.Reports.{sizeOf}
 use Rattle.series.specs.ReportsLaws.{size-positive}
 use Rattle.series.proofs.Listed.{at-end}
@@ -17,7 +17,7 @@ use Rattle.series.proofs.replay.Tie as tie
 
 abbrev Inv-loop : tie.InvT-loop
 Inv-loop bytes flags start end reports paths₀ walk₀ rec₀ at₀ paths walk rec at =
-    ((P W : List ℕ) → Replayed bytes flags start end reports P W (leaves rec₀ paths₀ walk₀) at₀ → Replayed bytes flags start end reports P W (leaves rec paths walk) at)
+    ((P W : List ℕ) → Replayed bytes flags start end reports P W (answering rec₀ paths₀ walk₀) at₀ → Replayed bytes flags start end reports P W (answering rec paths walk) at)
     × (length paths ≡ length paths₀)
     × (length walk ≡ length walk₀)
 
@@ -27,16 +27,16 @@ abbrev μ-loop : tie.MeasureT-loop
 -- the trials have begun
 started : (c : tie.After-known-told Inv-loop μ-loop)
     → let a = c .before .before .before .before .before .before .before .before .before .before .before .before .before .before .args in
-    Replayed (now (a .bytes)) (a .flags) (a .start) (a .end) (now (a .reports)) (now (a .paths)) (now (a .walk)) (leaves (c .before .begun .given .0 .0) (c .before .before .before .before .before .before .before .begin .last .1 .1 .1 .1 .0) (c .before .before .before .before .before .before .before .begin .last .1 .1 .1 .1 .1 .0)) 0
+    Replayed (now (a .bytes)) (a .flags) (a .start) (a .end) (now (a .reports)) (now (a .paths)) (now (a .walk)) (answering (c .before .begun .given .0 .0) (c .before .before .before .before .before .before .before .begin .last .1 .1 .1 .1 .0) (c .before .before .before .before .before .before .before .begin .last .1 .1 .1 .1 .1 .0)) 0
 started c =
     let a = c .before .before .before .before .before .before .before .before .before .before .before .before .before .before .args in
     let begin = c .before .before .before .before .before .before .before .begin in
-    replayed-begin (now (a .bytes)) (a .flags) (a .start) (a .end) (now (a .reports)) (now (a .paths)) (now (a .walk)) (leaves (begin .result) (begin .last .1 .1 .1 .1 .0) (begin .last .1 .1 .1 .1 .1 .0)) _ (begin .ensures) (c .before .begun .given .1)
+    replayed-begin (now (a .bytes)) (a .flags) (a .start) (a .end) (now (a .reports)) (now (a .paths)) (now (a .walk)) (answering (begin .result) (begin .last .1 .1 .1 .1 .0) (begin .last .1 .1 .1 .1 .1 .0)) _ (begin .ensures) (c .before .begun .given .1)
 
 -- some reports have been made
 at-loop : (c : tie.At-loop Inv-loop μ-loop)
     → let a = c .before .before .before .before .before .before .before .before .before .before .before .before .before .before .before .args in
-    Replayed (now (a .bytes)) (a .flags) (a .start) (a .end) (now (a .reports)) (now (a .paths)) (now (a .walk)) (leaves (c .loop .rec) (c .loop .paths) (c .loop .walk)) (c .loop .at)
+    Replayed (now (a .bytes)) (a .flags) (a .start) (a .end) (now (a .reports)) (now (a .paths)) (now (a .walk)) (answering (c .loop .rec) (c .loop .paths) (c .loop .walk)) (c .loop .at)
 at-loop c = c .loop .inv .0 _ _ (started (c .before))
 
 -- one more has been made
@@ -45,13 +45,13 @@ after-report : (c : tie.After-record-of Inv-loop μ-loop)
     let make = c .before .before .before .before .before .before .before .before .make in
     let start = c .before .before .before .before .before .before .before .before .before .before .before .before .before in
     (P W : List ℕ)
-    → Replayed (now (a .bytes)) (a .flags) (a .start) (a .end) (now (a .reports)) P W (leaves (start .before .begun .given .0 .0) (start .before .before .before .before .before .before .before .begin .last .1 .1 .1 .1 .0) (start .before .before .before .before .before .before .before .begin .last .1 .1 .1 .1 .1 .0)) 0
-    → Replayed (now (a .bytes)) (a .flags) (a .start) (a .end) (now (a .reports)) P W (leaves (recordIn (c .before .before .made .given .0 .0)) (make .last .1 .1 .1 .1 .0) (make .last .1 .1 .1 .1 .1 .0)) (c .before .before .made .given .0 .1 .0)
+    → Replayed (now (a .bytes)) (a .flags) (a .start) (a .end) (now (a .reports)) P W (answering (start .before .begun .given .0 .0) (start .before .before .before .before .before .before .before .begin .last .1 .1 .1 .1 .0) (start .before .before .before .before .before .before .before .begin .last .1 .1 .1 .1 .1 .0)) 0
+    → Replayed (now (a .bytes)) (a .flags) (a .start) (a .end) (now (a .reports)) P W (answering (recordIn (c .before .before .made .given .0 .0)) (make .last .1 .1 .1 .1 .0) (make .last .1 .1 .1 .1 .1 .0)) (c .before .before .made .given .0 .1 .0)
     × (c .before .before .made .given .0 .1 .0 ≡ c .before .before .before .before .before .before .before .before .before .before .before .before .loop .at + sizeOf (drop (c .before .before .before .before .before .before .before .before .before .before .before .before .loop .at) (now (a .reports))))
 after-report c P W h =
     let a = c .before .before .before .before .before .before .before .before .before .before .before .before .before .before .before .before .before .before .before .before .before .before .before .before .before .before .before .args in
     let make = c .before .before .before .before .before .before .before .before .make in
-    replayed-made (now (a .bytes)) (a .flags) (a .start) (a .end) (now (a .reports)) P W (c .before .before .before .before .before .before .before .before .before .before .before .before .loop .inv .0 P W h) (leaves (make .result) (make .last .1 .1 .1 .1 .0) (make .last .1 .1 .1 .1 .1 .0)) (make .ensures) _ _ (c .before .before .made .given .1)
+    replayed-made (now (a .bytes)) (a .flags) (a .start) (a .end) (now (a .reports)) P W (c .before .before .before .before .before .before .before .before .before .before .before .before .loop .inv .0 P W h) (answering (make .result) (make .last .1 .1 .1 .1 .0) (make .last .1 .1 .1 .1 .1 .0)) (make .ensures) _ _ (c .before .before .made .given .1)
 
 begin-requires : tie.Need-begin-requires Inv-loop μ-loop
 begin-requires c κs = search needs
@@ -72,7 +72,7 @@ returns : tie.Need-returns Inv-loop μ-loop
 returns c =
     let a = c .before .before .before .before .before .before .before .before .before .before .before .before .before .args in
     let begin = c .before .before .before .before .before .before .begin in
-    not-begun (now (a .bytes)) (a .flags) (a .start) (a .end) (now (a .reports)) (now (a .paths)) (now (a .walk)) (leaves (begin .result) (begin .last .1 .1 .1 .1 .0) (begin .last .1 .1 .1 .1 .1 .0)) _ (begin .ensures) (c .enum-told .given .1)
+    not-begun (now (a .bytes)) (a .flags) (a .start) (a .end) (now (a .reports)) (now (a .paths)) (now (a .walk)) (answering (begin .result) (begin .last .1 .1 .1 .1 .0) (begin .last .1 .1 .1 .1 .1 .0)) _ (begin .ensures) (c .enum-told .given .1)
 
 loop-holds : tie.Need-loop-holds Inv-loop μ-loop
 loop-holds c =
@@ -97,7 +97,7 @@ returns-2 : tie.Need-returns-2 Inv-loop μ-loop
 returns-2 c =
     let a = c .before .before .before .before .before .before .before .before .before .before .before .before .before .before .before .before .before .before .before .before .before .before .before .before .before .args in
     let make = c .before .before .before .before .before .before .make in
-    replayed-last (now (a .bytes)) (a .flags) (a .start) (a .end) (now (a .reports)) (now (a .paths)) (now (a .walk)) (at-loop (c .before .before .before .before .before .before .before .before .before .before)) (leaves (make .result) (make .last .1 .1 .1 .1 .0) (make .last .1 .1 .1 .1 .1 .0)) (make .ensures) (c .enum-told2 .given .1)
+    replayed-last (now (a .bytes)) (a .flags) (a .start) (a .end) (now (a .reports)) (now (a .paths)) (now (a .walk)) (at-loop (c .before .before .before .before .before .before .before .before .before .before)) (answering (make .result) (make .last .1 .1 .1 .1 .0) (make .last .1 .1 .1 .1 .1 .0)) (make .ensures) (c .enum-told2 .given .1)
 
 record-of-requires : tie.Need-record-of-requires Inv-loop μ-loop
 record-of-requires c κs = search needs
@@ -113,7 +113,7 @@ loop-again c =
     let a = c .before .before .before .before .before .before .before .before .before .before .before .before .before .before .before .before .before .before .before .before .before .before .before .before .before .before .before .args in
     let inv = c .before .before .before .before .before .before .before .before .before .before .before .before .loop .inv in (
       λ P W h.
-          subst (λ (r : Record). Replayed (now (a .bytes)) (a .flags) (a .start) (a .end) (now (a .reports)) P W (leaves r (c .before .before .before .before .before .before .before .before .make .last .1 .1 .1 .1 .0) (c .before .before .before .before .before .before .before .before .make .last .1 .1 .1 .1 .1 .0)) (c .before .before .made .given .0 .1 .0))
+          subst (λ (r : Record). Replayed (now (a .bytes)) (a .flags) (a .start) (a .end) (now (a .reports)) P W (answering r (c .before .before .before .before .before .before .before .before .make .last .1 .1 .1 .1 .0) (c .before .before .before .before .before .before .before .before .make .last .1 .1 .1 .1 .1 .0)) (c .before .before .made .given .0 .1 .0))
           (sym (c .record-of .ensures)) (after-report c P W h .0),
       omega (arith, inv .1),
       omega (arith, inv .2),

@@ -6,7 +6,7 @@ use borrow.Author.Needs.{needs}
 use denote.Ref.{now}
 use lib.ListN.{length, drop}
 use Rattle.trial_record.specs.declared.Record.{Record}
-use Rattle.trials.specs.Operations.{leaves, recordIn}
+use Rattle.trials.specs.Operations.{answering, recordIn}
 use Rattle.series.specs.Reports.{reportsOf}
 use Rattle.series.specs.Whole.{reportsOn}
 use Rattle.kinds.proofs.Stepped.{made-next, made-last, at-last}
@@ -15,7 +15,7 @@ use Rattle.kinds.proofs.replaying.make_all.Tie as tie
 
 abbrev Inv-loop : tie.InvT-loop
 Inv-loop bytes reports paths₀ walk₀ rec₀ at₀ paths walk rec at =
-    (reportsOn bytes (leaves rec paths walk) (reportsOf (drop at reports)) ≡ reportsOn bytes (leaves rec₀ paths₀ walk₀) (reportsOf (drop at₀ reports)))
+    (reportsOn bytes (answering rec paths walk) (reportsOf (drop at reports)) ≡ reportsOn bytes (answering rec₀ paths₀ walk₀) (reportsOf (drop at₀ reports)))
     × (length paths ≡ length paths₀)
     × (length walk ≡ length walk₀)
 
@@ -28,14 +28,14 @@ after-report : (c : tie.After-record-of Inv-loop μ-loop)
     let loop = c .before .before .before .before .before .before .before .before .before .before .before .before .before .before .loop in
     let make = c .before .before .before .before .before .before .before .before .before .before .make in
     let made = c .before .before .before .before .made .given .0 in
-    (reportsOn (now (a .bytes)) (leaves (recordIn (made .0)) (make .last .1 .1 .1 .1 .0) (make .last .1 .1 .1 .1 .1 .0)) (reportsOf (drop (made .1 .0) (now (a .reports))))
-    ≡ reportsOn (now (a .bytes)) (leaves (loop .rec) (loop .paths) (loop .walk)) (reportsOf (drop (loop .at) (now (a .reports)))))
+    (reportsOn (now (a .bytes)) (answering (recordIn (made .0)) (make .last .1 .1 .1 .1 .0) (make .last .1 .1 .1 .1 .1 .0)) (reportsOf (drop (made .1 .0) (now (a .reports))))
+    ≡ reportsOn (now (a .bytes)) (answering (loop .rec) (loop .paths) (loop .walk)) (reportsOf (drop (loop .at) (now (a .reports)))))
     × (loop .at < made .1 .0)
 after-report c =
     let a = c .before .before .before .before .before .before .before .before .before .before .before .before .before .before .before .before .before .before .before .args in
     let loop = c .before .before .before .before .before .before .before .before .before .before .before .before .before .before .loop in
     let make = c .before .before .before .before .before .before .before .before .before .before .make in
-    made-next (now (a .bytes)) (leaves (loop .rec) (loop .paths) (loop .walk)) (now (a .reports)) (loop .at) (leaves (make .result) (make .last .1 .1 .1 .1 .0) (make .last .1 .1 .1 .1 .1 .0)) (make .ensures) _ _ (c .before .before .before .before .made .given .1)
+    made-next (now (a .bytes)) (answering (loop .rec) (loop .paths) (loop .walk)) (now (a .reports)) (loop .at) (answering (make .result) (make .last .1 .1 .1 .1 .0) (make .last .1 .1 .1 .1 .1 .0)) (make .ensures) _ _ (c .before .before .before .before .made .given .1)
 
 loop-holds : tie.Need-loop-holds Inv-loop μ-loop
 loop-holds c = (refl, refl, refl)
@@ -60,7 +60,7 @@ returns c =
     let a = c .before .before .before .before .before .before .before .before .before .before .before .before .before .before .before .args in
     let loop = c .before .before .before .before .before .before .before .before .before .before .loop in
     let make = c .before .before .before .before .before .before .make in
-    made-last (now (a .bytes)) (leaves (loop .rec) (loop .paths) (loop .walk)) (now (a .reports)) (loop .at) (leaves (make .result) (make .last .1 .1 .1 .1 .0) (make .last .1 .1 .1 .1 .1 .0)) (make .ensures) (c .enum-told .given .1)
+    made-last (now (a .bytes)) (answering (loop .rec) (loop .paths) (loop .walk)) (now (a .reports)) (loop .at) (answering (make .result) (make .last .1 .1 .1 .1 .0) (make .last .1 .1 .1 .1 .1 .0)) (make .ensures) (c .enum-told .given .1)
     ∙ loop .inv .0
 
 answer-requires : tie.Need-answer-requires Inv-loop μ-loop
@@ -79,7 +79,7 @@ loop-again c =
     let loop = c .before .before .before .before .before .before .before .before .before .before .before .before .before .before .loop in
     let next = after-report c in (
       ap
-          (λ (r : Record). reportsOn (now (a .bytes)) (leaves r (make .last .1 .1 .1 .1 .0) (make .last .1 .1 .1 .1 .1 .0)) (reportsOf (drop (c .before .before .before .before .made .given .0 .1 .0) (now (a .reports)))))
+          (λ (r : Record). reportsOn (now (a .bytes)) (answering r (make .last .1 .1 .1 .1 .0) (make .last .1 .1 .1 .1 .1 .0)) (reportsOf (drop (c .before .before .before .before .made .given .0 .1 .0) (now (a .reports)))))
           (c .record-of .ensures) ∙ next .0 ∙ loop .inv .0,
       omega (arith, loop .inv .1),
       omega (arith, loop .inv .2),
@@ -95,7 +95,7 @@ returns-2 : tie.Need-returns-2 Inv-loop μ-loop
 returns-2 c =
     let a = c .before .before .before .before .before .before .args in
     let loop = c .before .loop in
-    at-last (now (a .bytes)) (leaves (loop .rec) (loop .paths) (loop .walk)) (now (a .reports)) (loop .at) (c .loop-test .left) ∙ loop .inv .0
+    at-last (now (a .bytes)) (answering (loop .rec) (loop .paths) (loop .walk)) (now (a .reports)) (loop .at) (c .loop-test .left) ∙ loop .inv .0
 
 pub make-all-spec : {M : Type 1} → statement M
 make-all-spec =

@@ -3,7 +3,7 @@ use borrow.Author.Needs.{needs}
 use denote.Ref.{now}
 use mathlib.Core.Path.{sym, ap, _∙_}
 use Rattle.trials.specs.declared.Begun.{Begun}
-use Rattle.trials.specs.Operations.{leaves}
+use Rattle.trials.specs.Operations.{answering}
 use Rattle.series.proofs.Replaying.{not-begun}
 use Rattle.kinds.proofs.Stepped.{stepped}
 use Rattle.kinds.proofs.replaying.step.Statement.{statement}
@@ -37,8 +37,8 @@ returns : tie.Need-returns
 returns c =
     let a = c .before .before .before .before .before .before .before .before .before .before .before .before .before .before .before .args in
     let begin = c .before .before .before .before .before .before .before .before .begin in
-    sym (ap (λ (x : Begun). leaves x (begin .last .1 .1 .1 .1 .0) (begin .last .1 .1 .1 .1 .1 .0)) (c .before .before .begun .given .1))
-    ∙ not-begun (now (a .bytes)) (a .flags) (a .start) (a .end) (now (a .reports)) (now (a .paths)) (now (a .walk)) (leaves (begin .result) (begin .last .1 .1 .1 .1 .0) (begin .last .1 .1 .1 .1 .1 .0)) _ (begin .ensures) (c .before .before .begun .given .1)
+    sym (ap (λ (x : Begun). answering x (begin .last .1 .1 .1 .1 .0) (begin .last .1 .1 .1 .1 .1 .0)) (c .before .before .begun .given .1))
+    ∙ not-begun (now (a .bytes)) (a .flags) (a .start) (a .end) (now (a .reports)) (now (a .paths)) (now (a .walk)) (answering (begin .result) (begin .last .1 .1 .1 .1 .0) (begin .last .1 .1 .1 .1 .1 .0)) _ (begin .ensures) (c .before .before .begun .given .1)
 
 same-length-3 : tie.Need-same-length-3
 same-length-3 c = search needs
@@ -51,8 +51,8 @@ returns-2 c =
     let a = c .before .before .before .before .before .before .before .before .before .before .before .before .before .before .before .before .before .before .before .before .before .before .before .args in
     let begin = c .before .before .before .before .before .before .before .before .before .before .before .before .before .before .before .before .begin in
     let make-all = c .before .before .before .before .make-all in
-    stepped (now (a .bytes)) (a .flags) (a .start) (a .end) (now (a .reports)) (now (a .paths)) (now (a .walk)) (leaves (begin .result) (begin .last .1 .1 .1 .1 .0) (begin .last .1 .1 .1 .1 .1 .0)) _ (begin .ensures) (c .before .before .before .before .before .before .before .before .before .before .begun2 .given .1)
-    (leaves (make-all .result) (make-all .last .1 .1 .1 .0) (make-all .last .1 .1 .1 .1 .0)) (make-all .ensures)
+    stepped (now (a .bytes)) (a .flags) (a .start) (a .end) (now (a .reports)) (now (a .paths)) (now (a .walk)) (answering (begin .result) (begin .last .1 .1 .1 .1 .0) (begin .last .1 .1 .1 .1 .1 .0)) _ (begin .ensures) (c .before .before .before .before .before .before .before .before .before .before .begun2 .given .1)
+    (answering (make-all .result) (make-all .last .1 .1 .1 .0) (make-all .last .1 .1 .1 .1 .0)) (make-all .ensures)
 
 pub step-spec : {M : Type 1} → statement M
 step-spec =

@@ -15,7 +15,7 @@ use Rattle.trial_record.specs.declared.Record.{Record}
 use Rattle.trial_record.specs.Steps.{fresh, replanned}
 use Rattle.trial_rules.specs.Trials.{beginTests}
 use Rattle.trials.specs.declared.Begun.{Begun}
-use Rattle.trials.specs.Operations.{leaves}
+use Rattle.trials.specs.Operations.{answering}
 use Rattle.trials.proofs.Beginning.{begin-fails, begun-short, begun}
 use Rattle.trials.proofs.opening.begin_in.Statement.{statement}
 use Rattle.trials.proofs.opening.begin_in.Tie as tie
@@ -126,8 +126,8 @@ returns-5 c b g s =
     let (counted, filled) = gathered gather b s in
     let f = call .find .result in
     let new = call .find .last .1 .1 .1 .1 .1 .1 .0 in
-    ap (λ (z : Record). leaves (Begun.Record z) (copy .copy .last .1 .1 .0) new) (c .replanned .ensures ∙ ap (λ (z : Record). replanned z f) (c .before .new .ensures))
-    ∙ ap (λ l. leaves (Begun.Record (replanned (fresh (a .start) (a .end) (gather .gather .result)) f)) l new) (copy .copy .ensures)
+    ap (λ (z : Record). answering (Begun.Record z) (copy .copy .last .1 .1 .0) new) (c .replanned .ensures ∙ ap (λ (z : Record). replanned z f) (c .before .new .ensures))
+    ∙ ap (λ l. answering (Begun.Record (replanned (fresh (a .start) (a .end) (gather .gather .result)) f)) l new) (copy .copy .ensures)
     ∙ begun b (a .flags) (a .start) (a .end) (now (a .paths)) (now (a .walk)) (g .well) (tested else4 b g) counted filled f new (call .find .ensures b g)
 
 pub begin-in-spec : {M : Type 1} → statement M

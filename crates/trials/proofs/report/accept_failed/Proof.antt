@@ -2,7 +2,7 @@
 use borrow.Author.Needs.{needs}
 use borrow.Author.Tests.{not-true, not-false, le-ltb, lt-ltb}
 use denote.Ref.{now}
-use mathlib.Core.Bool.{Bool, true, _&&_}
+use mathlib.Core.Bool.{Bool, _&&_}
 use mathlib.Core.Option.{none}
 use mathlib.Core.Path.{_≡_, sym, ap, _∙_}
 use lib.ListN.{take}

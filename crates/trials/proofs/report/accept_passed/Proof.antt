@@ -5,7 +5,7 @@ use mathlib.Core.Path.{sym, ap, _∙_}
 use Rattle.trial_record.specs.declared.Record.{Record}
 use Rattle.trials.specs.declared.Reported.{Reported}
 use Rattle.trial_rules.specs.Trials.{passed}
-use Rattle.trials.specs.Operations.{leaves}
+use Rattle.trials.specs.Operations.{answering}
 use Rattle.trials.proofs.Reporting.{refused, has-passed}
 use Rattle.trials.proofs.report.accept_passed.Statement.{statement}
 use Rattle.trials.proofs.report.accept_passed.Tie as tie
@@ -31,7 +31,7 @@ returns-2 : tie.Need-returns-2
 returns-2 c =
     let a = c .before .before .before .before .before .before .args in
     λ b of.
-    ap (λ (z : Record). leaves (Reported.Accepted z) (now (a .paths)) (now (a .walk))) (c .passed .ensures)
+    ap (λ (z : Record). answering (Reported.Accepted z) (now (a .paths)) (now (a .walk))) (c .passed .ensures)
     ∙ has-passed b (a .rec) (now (a .paths)) (now (a .walk)) (sym (c .before .enum-told .given .1) ∙ c .before .before .before .judge .ensures b of)
 
 pub accept-passed-spec : {M : Type 1} → statement M

@@ -17,7 +17,7 @@ use Rattle.trial_record.specs.declared.Record.{Record}
 use Rattle.trials.specs.declared.Reported.{Reported}
 use Rattle.trial_rules.specs.Trials.{failed}
 use Rattle.trial_record.specs.Steps.{replanned}
-use Rattle.trials.specs.Operations.{leaves}
+use Rattle.trials.specs.Operations.{answering}
 use Rattle.judging.specs.Judging.{reportTests}
 use Rattle.book.specs.Tables.{IsGraph}
 use Rattle.trials.proofs.Reporting.{few-known, failed-few, path-short, entry-fits, entered, start-below, area-fits, still-valid, walk-short, has-failed}
@@ -87,7 +87,7 @@ returns : tie.Need-returns
 returns c =
     let a = c .before .before .before .before .before .before .before .before .before .before .before .before .before .before .args in
     λ b of e.
-    ap (λ (z : Record). leaves (Reported.Accepted z) (c .before .before .before .before .before .before .before .before .before .enter .last .1 .1 .0) (c .before .before .before .find .last .1 .1 .1 .1 .1 .1 .0))
+    ap (λ (z : Record). answering (Reported.Accepted z) (c .before .before .before .before .before .before .before .before .before .enter .last .1 .1 .0) (c .before .before .before .find .last .1 .1 .1 .1 .1 .1 .0))
     (c .replanned .ensures ∙ ap (λ (z : Record). replanned z (c .before .before .before .find .result)) (c .before .before .before .before .before .before .failed .ensures))
     ∙ has-failed b (of .well) (a .rec) (now (a .paths)) (now (a .walk)) (now (a .named)) e _ (enters (c .before .before .before .before .before .before .before .before .before) b of e) (c .before .before .before .find .result) (c .before .before .before .find .last .1 .1 .1 .1 .1 .1 .0) (plans (c .before .before .before) b of)
 

@@ -8,11 +8,10 @@ use Rattle.book.specs.Book.{Book}
 use Rattle.book.specs.Reading.{accepted, refused, reading}
 use Rattle.book.specs.Refusal.{refusalBy}
 use Rattle.book.specs.RefusalLaws.{Fails, Hold, first-fails, hold→none}
-use Rattle.rules.specs.declared.Checked.{Checked}
-use Rattle.rules.specs.declared.Checked.the-variants.{Refused}
+use Rattle.walk_check.specs.declared.Checked.the-variants.{Refused}
 use Rattle.rules.specs.Area.{spelled}
-use Rattle.rules.specs.Checking.{occurrence}
-use Rattle.rules.specs.Operations.{verdict, checkTests, checkingOf, checking}
+use Rattle.walk_check.specs.Checking.{occurrence}
+use Rattle.walk_check.specs.Checking.{verdict, checkTests, checkingOf, checking}
 
 module _ (s area : List ℕ) (count : ℕ) (w : List ℕ) where
   pub check-refused : (q : Refusal) → reading s ≡ refused q → Refused q ≡ checking s area count w

@@ -13,13 +13,13 @@ use lib.Seq.{slice, drop-drop}
 use Rattle.lists.specs.Test.{any}
 use Rattle.walks.specs.Avoid.{same}
 use Rattle.book.specs.Book.{All}
-use Rattle.rules.specs.declared.Checked.the-variants.{Clear, Occurs}
+use Rattle.walk_check.specs.declared.Checked.the-variants.{Clear, Occurs}
 use Rattle.rules.specs.Area.{blocks, pathOf, spelled}
 use Rattle.rules.specs.AreaLaws.{length-byte, path-part, path-size}
 use Rattle.lists.specs.Paste.{slice-part}
-use Rattle.rules.specs.Checking.{endsAt, someEnds, firstFrom, namedAt, answerAt, checkFrom}
-use Rattle.rules.specs.CheckLaws.{first-none}
+use Rattle.walk_check.specs.Checking.{endsAt, someEnds, firstFrom, namedAt, answerAt, checkFrom}
+use Rattle.walk_check.specs.CheckLaws.{first-none}
 use Rattle.rules.proofs.Entries.{any-map, blocks-start, any-past, any-here, any-later}
 
 -- ---- the lengths from n on
 module _ (p : ℕ → Bool) (n : ℕ) (more : n < 9) where

@@ -1,18 +1,23 @@
 -- The check of a walk (01: of a line-up): clear, or the forbidden path that ends earliest and, of those with that end, the shortest.
 use Prim.Native.Nat.{ℕ, zero, suc, _-_}
 use mathlib.Core.Bool.{Bool, cond, _&&_}
-use mathlib.Core.List.{List}
+use mathlib.Core.List.{List, [], _∷_}
 use mathlib.Core.Option.{Option, none, some}
 use lib.Dec.{eqb, leb}
 use lib.ListN.{length}
 use lib.Seq.{slice}
-use Rattle.limits.specs.Limits.{longest}
+use Rattle.limits.specs.Limits.{longest, areaSize}
 use Rattle.walks.specs.Graph.{Graph}
 use Rattle.walks.specs.Walk.{isWalk}
 use Rattle.lists.specs.Test.{any}
 use Rattle.walks.specs.Avoid.{same}
-use Rattle.rules.specs.declared.Checked.{Checked}
-use Rattle.rules.specs.declared.Checked.the-variants.{Clear, Occurs}
+use Rattle.book.specs.declared.Refusal.{Refusal}
+use Rattle.book.specs.Refusal.{Test, test}
+use Rattle.book.specs.Book.{Book, graph}
+use Rattle.book.specs.Reading.{Reading, reading, refusalOf}
+use Rattle.rules.specs.Area.{spelled, valid}
+use Rattle.walk_check.specs.declared.Checked.{Checked}
+use Rattle.walk_check.specs.declared.Checked.the-variants.{Clear, Occurs}
 
 -- The path r stands in w and ends right before place e.
 abbrev pub endsAt : List ℕ → ℕ → List ℕ → Bool
@@ -47,3 +52,18 @@ occurrence F w = checkFrom F w (length w) 1
 -- 10: what is to be checked is a walk of the book's graph, and not too long.
 abbrev pub checkable : Graph → List ℕ → Bool
 checkable g w = leb (length w) longest && isWalk g w
+
+-- The operation: what it is refused for, and what it answers.
+abbrev pub verdict : Option Refusal → Checked → Checked
+verdict none c = c
+verdict (some r) c = Checked.Refused r
+
+abbrev pub checkTests : List ℕ → ℕ → List ℕ → Book → List Test
+checkTests area count w b =
+    test 8 (leb areaSize (length area)) ∷ test 9 (valid (b .count) area count) ∷ test 10 (checkable (graph b) w) ∷ []
+
+abbrev pub checkingOf : Reading → List ℕ → ℕ → List ℕ → Checked
+checkingOf r area count w = verdict (refusalOf r (checkTests area count w)) (occurrence (spelled count area) w)
+
+abbrev pub checking : List ℕ → List ℕ → ℕ → List ℕ → Checked
+checking s area count w = checkingOf (reading s) area count w

@@ -14,7 +14,7 @@ use Rattle.book.specs.Book.{Book, WellFormed, graph}
 use Rattle.book.specs.TableLaws.{marked→free, unmarked→given}
 use Rattle.book.specs.Tables.{weightTable}
 use Rattle.limits.specs.Limits.{noArc, longest}
-use Rattle.rules.specs.Checking.{checkable}
+use Rattle.walk_check.specs.Checking.{checkable}
 
 and-no : (x : Bool) → x && false ≡ false
 and-no true = refl

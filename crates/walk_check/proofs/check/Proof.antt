@@ -5,16 +5,16 @@ use native.Mathlib.Omega.{arith}
 use borrow.Author.Tests.{not-true, not-false, le-leb, lt-leb}
 use denote.Ref.{now}
 use Rattle.book.specs.Book.{graph}
 use Rattle.rules.specs.Area.{valid}
-use Rattle.rules.specs.Checking.{checkable}
+use Rattle.walk_check.specs.Checking.{checkable}
 use Rattle.rules.specs.ValidLaws.{valid-fits}
 use Rattle.book.specs.BookLaws.{answer-refused}
 use Rattle.book.specs.Loaded.{Loaded, loaded}
 use Rattle.book.specs.RefusalLaws.{here, later}
-use Rattle.rules.proofs.Checks.{check-refused, check-fails, check-done}
+use Rattle.walk_check.proofs.Checks.{check-refused, check-fails, check-done}
 use borrow.Author.Needs.{needs}
-use Rattle.rules.proofs.check.Statement.{statement}
-use Rattle.rules.proofs.check.Tie as tie
+use Rattle.walk_check.proofs.check.Statement.{statement}
+use Rattle.walk_check.proofs.check.Tie as tie
 
 load-requires : tie.Need-load-requires
 load-requires c κs = search needs

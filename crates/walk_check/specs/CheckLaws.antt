@@ -14,10 +14,10 @@ use lib.Seq.{slice, take-at, drop-at}
 use Rattle.limits.specs.Limits.{longestPath}
 use Rattle.lists.specs.Test.{T→true, true→T, any→some, some→any, and-true}
 use Rattle.walks.specs.Avoid.{Occurs, Avoids, same}
-use Rattle.rules.specs.declared.Checked.the-variants.{Clear, Occurs as Occurs-at}
+use Rattle.walk_check.specs.declared.Checked.the-variants.{Clear, Occurs as Occurs-at}
 use Rattle.lists.specs.Paste.{slice-part}
-use Rattle.rules.specs.Checking.{endsAt, someEnds, firstFrom, namedAt, answerAt, checkFrom, occurrence}
+use Rattle.walk_check.specs.Checking.{endsAt, someEnds, firstFrom, namedAt, answerAt, checkFrom, occurrence}
 use Rattle.rules.specs.Sets.{same-true, true-same, refuted}
 
 -- ---- the first number that passes
 pub first-none : (p : ℕ → Bool) (k n : ℕ) → ((m : ℕ) → n ≤ m → p m ≡ false) → firstFrom p k n ≡ none

@@ -10,14 +10,14 @@ use lib.Dec.{eqb}
 use lib.ListN.{length, take, drop}
 use Rattle.lists.specs.Test.{any}
 use Rattle.walks.specs.Avoid.{same}
-use Rattle.rules.specs.declared.Checked.the-variants.{Clear}
+use Rattle.walk_check.specs.declared.Checked.the-variants.{Clear}
 use Rattle.rules.specs.Area.{blocks, pathOf, spelled}
-use Rattle.rules.specs.Checking.{endsAt, someEnds, firstFrom, namedAt, checkFrom, occurrence}
+use Rattle.walk_check.specs.Checking.{endsAt, someEnds, firstFrom, namedAt, checkFrom, occurrence}
 use Rattle.rules.proofs.Parts.{parts-past, parts-differ, parts-next}
-use Rattle.rules.proofs.Searched.{first-here, first-later, ends-past, ends-here, ends-later, lengths-past, lengths-done, paths-start, paths-past, other-length, differs, stands}
+use Rattle.walk_check.proofs.Searched.{first-here, first-later, ends-past, ends-here, ends-later, lengths-past, lengths-done, paths-start, paths-past, other-length, differs, stands}
 use borrow.Author.Needs.{needs}
-use Rattle.rules.proofs.walk.first_occurrence.Statement.{statement}
-use Rattle.rules.proofs.walk.first_occurrence.Tie as tie
+use Rattle.walk_check.proofs.walk.first_occurrence.Statement.{statement}
+use Rattle.walk_check.proofs.walk.first_occurrence.Tie as tie
 
 abbrev Inv-loop2 : tie.InvT-loop2
 Inv-loop2 area count walk answer end n place k at i₀ i =

@@ -8,10 +8,10 @@ use Rattle.walks.specs.Walk.{isWalk, isWalkFrom}
 use Rattle.book.specs.Book.{Book, graph}
 use Rattle.book.specs.Loaded.{graph-few}
 use Rattle.book.specs.Tables.{IsGraph}
-use Rattle.rules.proofs.Walks.{too-long, only-walk, empty, first-high, first-low, none-left, next-high, next-apart, next-joined}
+use Rattle.walk_check.proofs.Walks.{too-long, only-walk, empty, first-high, first-low, none-left, next-high, next-apart, next-joined}
 use borrow.Author.Needs.{needs}
-use Rattle.rules.proofs.walk.is_walk.Statement.{statement}
-use Rattle.rules.proofs.walk.is_walk.Tie as tie
+use Rattle.walk_check.proofs.walk.is_walk.Statement.{statement}
+use Rattle.walk_check.proofs.walk.is_walk.Tie as tie
 
 abbrev Inv-loop : tie.InvT-loop
 Inv-loop weights vertices walk u₀ i₀ u i =
