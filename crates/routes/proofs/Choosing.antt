@@ -10,10 +10,10 @@ use borrow.Author.Tests.{eq-eqb, ne-eqb}
 use lib.Pow.{pow-mono, pow-lt}
 use Rattle.distances.specs.Table.{at}
 use Rattle.distances.specs.Pack.{pack}
-use Rattle.routes.specs.Product.{arcAt, stepTo, isOpen}
+use Rattle.product.specs.Product.{arcAt, stepTo, isOpen}
 use Rattle.routes.specs.Route.{isUsable}
 use Rattle.routes.specs.Word.{word, word-lt}
-use Rattle.routes.proofs.Filling.{next-half}
+use Rattle.product.proofs.Filling.{next-half}
 
 pub record Choosing (p : ℕ → Bool) (bits left chosen v : ℕ) : Type 0 where
   pub left-is : left ≡ bits / 2 ^ v

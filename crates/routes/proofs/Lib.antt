@@ -1,4 +1,2 @@
-pub mod Filling
-pub mod Targeting
 pub mod Choosing
 pub mod Walking

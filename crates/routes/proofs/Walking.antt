@@ -8,9 +8,9 @@ use lib.ListN.{length, drop, set, length-append}
 use lib.Seq.{drop-cons, drop-set-lt, set-at, set-split}
 use Rattle.distances.specs.Table.{at, inf}
 use Rattle.distances.specs.Pack.{hopsLimit}
-use Rattle.routes.specs.Product.{stepTo}
+use Rattle.product.specs.Product.{stepTo}
 use Rattle.routes.specs.Route.{next, route, walkFrom, length-route, Guided}
-use Rattle.routes.specs.Fits.{Guiding}
+use Rattle.routes.specs.Guiding.{Guiding}
 
 module _ (weights steps blockeds latests d : List ℕ) (n s : ℕ) (old : List ℕ) where
   pub record Walking (area : List ℕ) (q k : ℕ) : Type 0 where

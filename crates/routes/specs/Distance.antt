@@ -25,9 +25,9 @@ use Rattle.automaton.specs.Built.{Built, Numbers}
 use Rattle.walks.specs.Weights.{Weights}
 use Rattle.automaton.specs.Count.{mostStates}
 use Rattle.limits.specs.Limits.{heaviest}
-use Rattle.routes.specs.Product.{arcAt, stepTo, isOpen, edgeOver, stateEdges, Over, edges-over}
-use Rattle.routes.specs.ProductLaws.{getD-mem, wordOf, Numbered, numbered, each-numbered, step-number, step-below, step-weight, step-edge, weighted}
-use Rattle.routes.specs.Targets.{targets, at-targets, targets-are}
+use Rattle.product.specs.Product.{arcAt, stepTo, isOpen, edgeOver, stateEdges, Over, edges-over}
+use Rattle.product.specs.ProductLaws.{getD-mem, wordOf, Numbered, numbered, each-numbered, step-number, step-below, step-weight, step-edge, weighted}
+use Rattle.product.specs.Targets.{targets, at-targets, targets-are}
 
 -- The number of a word among words; the length where it is none of them.
 unfoldable pub number : List (List ℕ) → List ℕ → ℕ

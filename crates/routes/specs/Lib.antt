@@ -1,10 +1,5 @@
 pub mod Word
-pub mod Product
-pub mod ProductLaws
-pub mod Targets
 pub mod Distance
 pub mod Route
-pub mod Columns
-pub mod Fits
-pub mod Scratch
+pub mod Guiding
 pub mod Plan

@@ -17,11 +17,12 @@ use Rattle.limits.specs.Limits.{longest}
 use Rattle.routes.specs.declared.Found.{Found}
 use Rattle.routes.specs.declared.Found.the-variants.{Walk, Nothing}
 use Rattle.walks.specs.Weights.{Weights}
-use Rattle.routes.specs.Product.{stateEdges}
-use Rattle.routes.specs.Targets.{targets}
+use Rattle.product.specs.Product.{stateEdges}
+use Rattle.product.specs.Targets.{targets}
 use Rattle.routes.specs.Distance.{bounded}
 use Rattle.routes.specs.Route.{walkFrom, walk-best, walk-weight, start-none}
-use Rattle.routes.specs.Fits.{Fits, Guiding, fits, guiding}
+use Rattle.product.specs.Fits.{Fits, fits}
+use Rattle.routes.specs.Guiding.{Guiding, guiding}
 
 -- The best walk stands in the front of the area, with its weight (01: litres) and hops (01: changeovers) as the answer; the rest of the area is as it was.
 pub record PlannedWalk (g : Graph) (F : List (List ℕ)) (s t : ℕ) (old : List ℕ) (weight hops′ : ℕ) (new : List ℕ) : Type 0 where

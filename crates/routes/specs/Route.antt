@@ -24,9 +24,9 @@ use Rattle.automaton.specs.Greedy.{Usable, Greedy, greedy-cost, greedy-best, se
 use Rattle.automaton.specs.Built.{Built}
 use Rattle.routes.specs.Word.{word, Lowest, word-lowest}
 use Rattle.walks.specs.Weights.{Weights}
-use Rattle.routes.specs.Product.{arcAt, stepTo, isOpen, stateEdges}
-use Rattle.routes.specs.ProductLaws.{wordOf, Numbered, numbered, open-step, step-open, step-number, step-below, step-weight}
-use Rattle.routes.specs.Targets.{targets}
+use Rattle.product.specs.Product.{arcAt, stepTo, isOpen, stateEdges}
+use Rattle.product.specs.ProductLaws.{wordOf, Numbered, numbered, open-step, step-open, step-number, step-below, step-weight}
+use Rattle.product.specs.Targets.{targets}
 use Rattle.routes.specs.Distance.{unpacked, reading, reading-some, reading-none, some-reading, distance, distance-at, bounded, settled, entry-cases}
 
 module _ (weights steps blockeds latests d : List ℕ) where

@@ -15,9 +15,9 @@ use Rattle.automaton.specs.Area.{Spells}
 use Rattle.automaton.specs.Count.{statesOf}
 use Rattle.automaton.specs.Built.{Built}
 use Rattle.automaton.specs.Progress.{Room}
-use Rattle.routes.specs.Scratch.{EdgeRoom, room-less, room-kept}
-use Rattle.routes.specs.Product.{stateEdges}
-use Rattle.routes.specs.Targets.{targets}
+use Rattle.product.specs.Scratch.{EdgeRoom, room-less, room-kept}
+use Rattle.product.specs.Product.{stateEdges}
+use Rattle.product.specs.Targets.{targets}
 use Rattle.routes.specs.Plan.{Prepared, Measured}
 
 -- How many states a usual book has at most (01: 30 grades, 20 runs).

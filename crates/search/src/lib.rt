@@ -17,8 +17,8 @@ use automaton::build;
 use distances::INF;
 use limits::MOST_VERTICES;
 use limits::PAIRS;
+use product::distances_to;
 use routes::Found;
-use routes::distances_to;
 use routes::least_walk;
 
 // How many states and steps there are for a usual book at most. Work tables are cleared before use, and to clear those for all
