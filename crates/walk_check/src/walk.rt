@@ -4,7 +4,7 @@ ghost use Prim.Native.Nat.{_+_, _*_, _≤_, _<_};
 ghost use lib.ListN.{length, getD};
 ghost use Rattle.book.specs.Book.{Book, All, graph};
 ghost use Rattle.book.specs.Tables.{IsGraph};
-ghost use Rattle.limits.specs.Limits.{entrySize};
+ghost use Rattle.limits.specs.Limits.{entrySize, longestPath};
 ghost use Rattle.rules.specs.Area.{blocks, spelled};
 ghost use Rattle.walk_check.specs.Checking.{occurrence, checkable};
 use crate::Checked;
@@ -49,7 +49,7 @@ pub fn is_walk(weights: &[u32; PAIRS], vertices: usize, walk: &[u8]) -> bool
 // The path that ends earliest and, of those with that end, the shortest: ends, lengths, paths and their vertices in turn.
 pub fn first_occurrence(area: &[u8], count: usize, walk: &[u8]) -> Checked
     requires { ⌜ count * entrySize ≤ length (now area) ⌝ }
-    requires { ⌜ All (λ e. getD e 0 0 ≤ 8) (blocks count (now area)) ⌝ }
+    requires { ⌜ All (λ e. getD e 0 0 ≤ longestPath) (blocks count (now area)) ⌝ }
     ensures { λ r. ⌜ r ≡ occurrence (spelled count (now (area .entry))) (now (walk .entry)) ⌝ }
 {
     let mut answer = Checked::Clear;

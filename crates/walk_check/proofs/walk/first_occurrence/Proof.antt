@@ -1,15 +1,18 @@
 -- `walk::first_occurrence` meets its contract: at each turn of each loop, the answer for the whole is the answer for what is left.
-use Prim.Native.Nat.{_+_, _-_, _*_, _≤_}
+use Prim.Native.Nat.{ℕ, _+_, _-_, _*_, _≤_, _<_}
 use mathlib.Core.Logic.{⊎-elim}
 use mathlib.Core.Path.{_≡_, refl, sym, ap, _∙_}
 use native.Mathlib.Omega.{arith}
 use borrow.Author.Tests.{leb-true, leb-false}
 use denote.Ref.{now}
 use mathlib.Core.Bool.{_&&_}
+use mathlib.Core.List.{List}
 use lib.Dec.{eqb}
-use lib.ListN.{length, take, drop}
+use lib.ListN.{length, getD, take, drop}
 use Rattle.lists.specs.Test.{any}
 use Rattle.walks.specs.Avoid.{same}
+use Rattle.limits.specs.Limits.{entrySize, longestPath}
+use Rattle.book.specs.Book.{All}
 use Rattle.walk_check.specs.declared.Checked.the-variants.{Clear}
 use Rattle.rules.specs.Area.{blocks, pathOf, spelled}
 use Rattle.walk_check.specs.Checking.{endsAt, someEnds, firstFrom, namedAt, checkFrom, occurrence}
@@ -29,7 +32,7 @@ abbrev μ-loop2 : tie.MeasureT-loop2
 abbrev Inv-paths : tie.InvT-paths
 Inv-paths area count walk answer₀ end n place k₀ answer k =
     (k ≤ count) × (answer ≡ Clear)
-    × (any (λ b. eqb (length (pathOf b)) n && endsAt walk end (pathOf b)) (blocks (count - k) (drop (k * 9) area)) ≡ someEnds (spelled count area) walk end n)
+    × (any (λ b. eqb (length (pathOf b)) n && endsAt walk end (pathOf b)) (blocks (count - k) (drop (k * entrySize) area)) ≡ someEnds (spelled count area) walk end n)
 
 abbrev μ-paths : tie.MeasureT-paths
 μ-paths area count walk answer₀ end n place k₀ answer k = count - k
@@ -51,6 +54,50 @@ abbrev μ-ends : tie.MeasureT-ends
 -- the length that is tried is at most the end
 begins-at : (c : tie.Then1 Inv-loop2 μ-loop2 Inv-paths μ-paths Inv-loop μ-loop Inv-ends μ-ends) → c .before .before .loop .n ≤ c .before .before .before .before .ends .end
 begins-at c = leb-true _ _ (c .if1 .taken)
+
+-- A path of the length that is tried: what the loops around it know of its entry and of the walk.
+module _ (e : tie.Else2 Inv-loop2 μ-loop2 Inv-paths μ-paths Inv-loop μ-loop Inv-ends μ-ends) where
+  abbrev area : List ℕ
+  area = now (e .before .before .before .before .before .before .before .before .before .before .before .before .args .area)
+
+  abbrev walk : List ℕ
+  walk = now (e .before .before .before .before .before .before .before .before .before .before .before .before .args .walk)
+
+  abbrev count : ℕ
+  count = e .before .before .before .before .before .before .before .before .before .before .before .before .args .count
+
+  abbrev end : ℕ
+  end = e .before .before .before .before .before .before .before .before .before .ends .end
+
+  abbrev n : ℕ
+  n = e .before .before .before .before .before .before .before .loop .n
+
+  abbrev k : ℕ
+  k = e .before .before .before .before .paths .k
+
+  more : k < count
+  more = e .before .before .before .paths-test .taken
+
+  length-is : getD area (k * entrySize) 0 ≡ n
+  length-is = sym (e .before .wide .ensures .0) ∙ e .if2 .left
+
+  begins : n ≤ end
+  begins = begins-at (e .before .before .before .before .before)
+
+  ends : end ≤ length walk
+  ends = omega (arith, e .before .before .before .before .before .before .before .before .ends-test .taken)
+
+  room : count * entrySize ≤ length area
+  room = e .before .before .before .before .before .before .before .before .before .before .before .before .pre .0
+
+  fit : All (λ x. getD x 0 0 ≤ longestPath) (blocks count area)
+  fit = e .before .before .before .before .before .before .before .before .before .before .before .before .pre .1
+
+  in-area : k * entrySize + 1 + n ≤ length area
+  in-area = omega (arith, room, more, e .before .before .before .before .before .before .loop-test .taken)
+
+  in-walk : end - n + n ≤ length walk
+  in-walk = omega (arith, begins, ends)
 
 ends-holds :
     tie.Need-ends-holds Inv-loop2 μ-loop2 Inv-paths μ-paths Inv-loop μ-loop Inv-ends μ-ends
@@ -142,15 +189,7 @@ shared-slice-read-if3 :
     μ-loop
     Inv-ends
     μ-ends
-shared-slice-read-if3 c =
-    let at-loop2 = c .before .before in
-    let else2 = at-loop2 .before in
-    let at-paths = else2 .before .before .before .before in
-    let then1 = at-paths .before in
-    let at-loop = then1 .before .before in
-    let at-ends = at-loop .before .before in
-    let start = at-ends .before .before .before in
-    omega (arith, start .pre .0, else2 .before .before .before .paths-test .taken, then1 .before .loop-test .taken, c .before .loop2-test .taken)
+shared-slice-read-if3 c = omega (arith, in-area (c .before .before .before), c .before .loop2-test .taken)
 
 add-if3-3 : tie.Need-add-if3-3 Inv-loop2 μ-loop2 Inv-paths μ-paths Inv-loop μ-loop Inv-ends μ-ends
 add-if3-3 c = search needs
@@ -165,15 +204,7 @@ shared-slice-read-if3-2 :
     μ-loop
     Inv-ends
     μ-ends
-shared-slice-read-if3-2 c =
-    let at-loop2 = c .before .before .before in
-    let else2 = at-loop2 .before in
-    let at-paths = else2 .before .before .before .before in
-    let then1 = at-paths .before in
-    let at-loop = then1 .before .before in
-    let at-ends = at-loop .before .before in
-    let start = at-ends .before .before .before in
-    omega (arith, begins-at then1, at-loop .before .ends-test .taken, c .before .before .loop2-test .taken)
+shared-slice-read-if3-2 c = omega (arith, in-walk (c .before .before .before .before), c .before .before .loop2-test .taken)
 
 paths-less-2 :
     tie.Need-paths-less-2 Inv-loop2 μ-loop2 Inv-paths μ-paths Inv-loop μ-loop Inv-ends μ-ends
@@ -183,28 +214,13 @@ paths-again-2 :
     tie.Need-paths-again-2 Inv-loop2 μ-loop2 Inv-paths μ-paths Inv-loop μ-loop Inv-ends μ-ends
 paths-again-2 c =
     let at-loop2 = c .before .before .before .before in
-    let else2 = at-loop2 .before in
-    let at-paths = else2 .before .before .before .before in
-    let then1 = at-paths .before in
-    let at-loop = then1 .before .before in
-    let at-ends = at-loop .before .before in
-    let start = at-ends .before .before .before in
-    let a = start .args in
-    let i = at-loop2 .loop2 .i in
-    let n = at-loop .loop .n in
-    let k = at-paths .paths .k in
-    let end = at-ends .ends .end in
-    let more = else2 .before .before .before .paths-test .taken in
-    let length-is = sym (else2 .before .wide .ensures .0) ∙ else2 .if2 .left in
-    let short = then1 .before .loop-test .taken in
-    let room = start .pre .0 in
-    let begins = begins-at then1 in
-    let ends : at-ends .ends .end ≤ length (now (a .walk)) = omega (arith, at-loop .before .ends-test .taken) in (
+    let e = at-loop2 .before in
+    let at-paths = e .before .before .before .before in (
       omega arith,
       at-paths .paths .inv .1,
-      sym (differs (now (a .area)) (a .count) (now (a .walk)) (start .pre .0) (start .pre .1) (at-ends .ends .end) (at-loop .loop .n) k more (end - n) length-is refl begins ends
+      sym (differs (area e) (count e) (walk e) (room e) (fit e) (end e) (n e) (k e) (more e) (end e - n e) (length-is e) refl (begins e) (ends e)
           (sym (at-loop2 .loop2 .inv .1)
-          ∙ parts-differ (now (a .area)) (now (a .walk)) (k * 9 + 1) (end - n) n (omega arith) (omega arith) i (c .before .before .before .loop2-test .taken) (c .if3 .taken)))
+          ∙ parts-differ (area e) (walk e) (k e * entrySize + 1) (end e - n e) (n e) (in-area e) (in-walk e) (at-loop2 .loop2 .i) (c .before .before .before .loop2-test .taken) (c .if3 .taken)))
           ∙ at-paths .paths .inv .2,
     )
 
@@ -219,24 +235,10 @@ loop2-again :
     tie.Need-loop2-again Inv-loop2 μ-loop2 Inv-paths μ-paths Inv-loop μ-loop Inv-ends μ-ends
 loop2-again c =
     let at-loop2 = c .before .before .before .before in
-    let else2 = at-loop2 .before in
-    let at-paths = else2 .before .before .before .before in
-    let then1 = at-paths .before in
-    let at-loop = then1 .before .before in
-    let at-ends = at-loop .before .before in
-    let start = at-ends .before .before .before in
-    let a = start .args in
-    let i = at-loop2 .loop2 .i in
-    let n = at-loop .loop .n in
-    let k = at-paths .paths .k in
-    let end = at-ends .ends .end in
-    let more = else2 .before .before .before .paths-test .taken in
-    let short = then1 .before .loop-test .taken in
-    let room = start .pre .0 in
-    let begins = begins-at then1 in
-    let ends : at-ends .ends .end ≤ length (now (a .walk)) = omega (arith, at-loop .before .ends-test .taken) in (
+    let e = at-loop2 .before in (
       omega arith,
-      sym (parts-next (now (a .area)) (now (a .walk)) (k * 9 + 1) (end - n) n (omega arith) (omega arith) i (c .before .before .before .loop2-test .taken) (c .if3 .left)) ∙ at-loop2 .loop2 .inv .1,
+      sym (parts-next (area e) (walk e) (k e * entrySize + 1) (end e - n e) (n e) (in-area e) (in-walk e) (at-loop2 .loop2 .i) (c .before .before .before .loop2-test .taken) (c .if3 .left))
+          ∙ at-loop2 .loop2 .inv .1,
     )
 
 add-n : tie.Need-add-n Inv-loop2 μ-loop2 Inv-paths μ-paths Inv-loop μ-loop Inv-ends μ-ends
@@ -297,28 +299,14 @@ returns c =
 returns-2 : tie.Need-returns-2 Inv-loop2 μ-loop2 Inv-paths μ-paths Inv-loop μ-loop Inv-ends μ-ends
 returns-2 c =
     let at-loop2 = c .before in
-    let else2 = at-loop2 .before in
-    let at-paths = else2 .before .before .before .before in
-    let then1 = at-paths .before in
-    let at-loop = then1 .before .before in
-    let at-ends = at-loop .before .before in
-    let start = at-ends .before .before .before in
-    let a = start .args in
-    let i = at-loop2 .loop2 .i in
-    let n = at-loop .loop .n in
-    let k = at-paths .paths .k in
-    let end = at-ends .ends .end in
-    let more = else2 .before .before .before .paths-test .taken in
-    let length-is = sym (else2 .before .wide .ensures .0) ∙ else2 .if2 .left in
-    let short = then1 .before .loop-test .taken in
-    let room = start .pre .0 in
-    let begins = begins-at then1 in
-    let ends : at-ends .ends .end ≤ length (now (a .walk)) = omega (arith, at-loop .before .ends-test .taken) in
-    let match =
-    sym (at-loop2 .loop2 .inv .1) ∙ parts-past (now (a .area)) (now (a .walk)) (k * 9 + 1) (end - n) n (omega arith) (omega arith) i (c .loop2-test .left) in
-    let found = sym (at-paths .paths .inv .2) ∙ stands (now (a .area)) (a .count) (now (a .walk)) (start .pre .0) (start .pre .1) (at-ends .ends .end) (at-loop .loop .n) k more (end - n) length-is refl begins ends match in
-    let named = sym (at-loop .loop .inv .3) ∙ first-here (someEnds (spelled (a .count) (now (a .area))) (now (a .walk)) end) n (omega arith) found in
-    sym (ends-here (spelled (a .count) (now (a .area))) (now (a .walk)) end ends n named) ∙ at-ends .ends .inv .3
+    let e = at-loop2 .before in
+    let at-paths = e .before .before .before .before in
+    let at-loop = at-paths .before .before .before in
+    let F = spelled (count e) (area e) in
+    let match = sym (at-loop2 .loop2 .inv .1) ∙ parts-past (area e) (walk e) (k e * entrySize + 1) (end e - n e) (n e) (in-area e) (in-walk e) (at-loop2 .loop2 .i) (c .loop2-test .left) in
+    let found = sym (at-paths .paths .inv .2) ∙ stands (area e) (count e) (walk e) (room e) (fit e) (end e) (n e) (k e) (more e) (end e - n e) (length-is e) refl (begins e) (ends e) match in
+    let named = sym (at-loop .loop .inv .3) ∙ first-here (someEnds F (walk e) (end e)) (n e) (omega (arith, at-loop .loop .inv .1, at-paths .before .before .loop-test .taken)) found in
+    sym (ends-here F (walk e) (end e) (ends e) (n e) named) ∙ at-loop .before .before .ends .inv .3
 
 pub first-occurrence-spec : {M : Type 1} → statement M
 first-occurrence-spec =
