@@ -41,14 +41,9 @@ fn enter(vertices: usize, i: usize, arc: Arc, weights: &mut [u32; PAIRS]) -> Ver
     requires { ⌜ ((b : Book) × IsGraph b vertices (now weights)) ⌝ }
     ensures { λ r. ⌜ ((b : Book) → IsGraph b vertices (now (weights .entry)) → Stands vertices (withArc b i (arcOf arc)) r (now (weights .exit))) ⌝ }
 {
-    book::enter_arc(
-        vertices,
-        i,
-        wide(arc.tail),
-        wide(arc.head),
-        arc.weight as usize,
-        weights,
-    )
+    let tail = wide(arc.tail);
+    let head = wide(arc.head);
+    book::enter_arc(vertices, i, tail, head, arc.weight as usize, weights)
 }
 
 // Whether item i of n is still to be entered.
