@@ -10,7 +10,7 @@ use Rattle.book.specs.Refusal.{Test, test}
 use Rattle.book.specs.Book.{Book, graph}
 use Rattle.rules.specs.Area.{spelled, valid}
 use Rattle.trial_record.specs.declared.Record.{Record}
-use Rattle.trial_rules.specs.Trials.{Report, State, areaTests, isRecord, isNamed, hasRoom}
+use Rattle.trial_rules.specs.Trials.{Report, State, areaTests, isRecord, saidTests}
 use Rattle.judging.specs.declared.Judged.{Judged}
 use Rattle.judging.specs.declared.Judged.the-variants.{Standing, Refused}
 
@@ -18,17 +18,14 @@ use Rattle.judging.specs.declared.Judged.the-variants.{Standing, Refused
 abbrev pub stateOf : Record → List ℕ → List ℕ → State
 stateOf r paths walk = record { rec = r; forbidden = spelled (r .known) paths; beyond = drop areaSize paths; area = walk }
 
--- What every report is refused for: 8, 9 and 11; and then what it is refused for by what it says: 12, 13.
+-- What every report is refused for: 8, 9 and 11; and then what it is refused for by what it says.
 abbrev pub judgeTests : Record → List ℕ → List ℕ → Book → List Test
 judgeTests r paths walk b =
     areaTests paths walk
     ++ (test 9 (valid (b .count) paths (r .known)) ∷ test 9 (isRecord (graph b) (stateOf r paths walk)) ∷ test 11 (eqb (r .stage) 0) ∷ [])
 
-abbrev pub saidTests : Record → List ℕ → List ℕ → Report → Book → List Test
-saidTests r paths walk ρ b = test 12 (isNamed (graph b) (stateOf r paths walk) ρ) ∷ test 13 (hasRoom (stateOf r paths walk) ρ) ∷ []
-
 abbrev pub reportTests : Record → List ℕ → List ℕ → Report → Book → List Test
-reportTests r paths walk ρ b = judgeTests r paths walk b ++ saidTests r paths walk ρ b
+reportTests r paths walk ρ b = judgeTests r paths walk b ++ saidTests (graph b) (stateOf r paths walk) ρ
 
 -- What `judge` answers for a refusal, or where there is none.
 abbrev pub judgedAs : Option Refusal → Judged

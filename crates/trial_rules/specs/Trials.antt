@@ -133,9 +133,13 @@ beginTests g s t paths area = areaTests paths area ++ (test 7 (ltb s (g .count))
 abbrev pub beginRefusal : Graph → ℕ → ℕ → List ℕ → List ℕ → Option Refusal
 beginRefusal g s t paths area = refusalBy (beginTests g s t paths area)
 
+-- What a report is refused for by what it says: 12, 13.
+abbrev pub saidTests : Graph → State → Report → List Test
+saidTests g σ ρ = test 12 (isNamed g σ ρ) ∷ test 13 (hasRoom σ ρ) ∷ []
+
 -- The oracle's own tests: 11, 12, 13.
 abbrev pub oracleTests : Graph → State → Report → List Test
-oracleTests g σ ρ = test 11 (eqb (σ .rec .stage) 0) ∷ test 12 (isNamed g σ ρ) ∷ test 13 (hasRoom σ ρ) ∷ []
+oracleTests g σ ρ = test 11 (eqb (σ .rec .stage) 0) ∷ saidTests g σ ρ
 
 -- A report: 8, 9, 11, 12, 13.
 abbrev pub stateTests : Graph → State → Report → List Test

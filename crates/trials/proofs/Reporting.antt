@@ -30,10 +30,10 @@ use Rattle.routes.specs.Plan.{Searched}
 use Rattle.trial_record.specs.declared.Record.{Record}
 use Rattle.trials.specs.declared.Reported.{Reported}
 use Rattle.judging.specs.declared.Judged.the-variants.{Standing, Refused}
-use Rattle.trial_rules.specs.Trials.{Report, passed, failed, State, ForbiddenSet, passedIn, stageOf, litresOf, lengthOf, step}
+use Rattle.trial_rules.specs.Trials.{Report, passed, failed, State, ForbiddenSet, passedIn, stageOf, litresOf, lengthOf, step, saidTests}
 use Rattle.trial_record.specs.Steps.{passedOf, failedOf, replanned, Recordable}
 use Rattle.trials.specs.Operations.{answering, reportedAs, reportingOf}
-use Rattle.judging.specs.Judging.{stateOf, judgeTests, saidTests, reportTests, judgedAs}
+use Rattle.judging.specs.Judging.{stateOf, judgeTests, reportTests, judgedAs}
 use Rattle.trials.specs.OperationLaws.{Passed, passed-tests}
 use Rattle.trial_rules.specs.Tests.{set-paths, set-once}
 use Rattle.trial_rules.specs.Invariant.{one-more}
@@ -62,12 +62,12 @@ module _ (b : Book) (r : Record) (paths walk : List ℕ) where
 
   pub refused : (x : Refusal) → Refused x ≡ judgedAs (refusalBy (judgeTests r paths walk b)) → (ρ : Report)
       → answering (Reported.Refused x r) paths walk ≡ reportingOf (accepted b) r paths walk ρ
-  refused x e ρ = answered ρ (some x) (first-kept (judgeTests r paths walk b) (saidTests r paths walk ρ b) x (judged-refused (refusalBy (judgeTests r paths walk b)) x e))
+  refused x e ρ = answered ρ (some x) (first-kept (judgeTests r paths walk b) (saidTests (graph b) (stateOf r paths walk) ρ) x (judged-refused (refusalBy (judgeTests r paths walk b)) x e))
 
   module _ (stands : Standing ≡ judgedAs (refusalBy (judgeTests r paths walk b))) where
     -- 12 and 13 are left
-    left-over : (ρ : Report) → refusalBy (reportTests r paths walk ρ b) ≡ refusalBy (saidTests r paths walk ρ b)
-    left-over ρ = first-of-append (judgeTests r paths walk b) (saidTests r paths walk ρ b) (judged-standing (refusalBy (judgeTests r paths walk b)) stands)
+    left-over : (ρ : Report) → refusalBy (reportTests r paths walk ρ b) ≡ refusalBy (saidTests (graph b) (stateOf r paths walk) ρ)
+    left-over ρ = first-of-append (judgeTests r paths walk b) (saidTests (graph b) (stateOf r paths walk) ρ) (judged-standing (refusalBy (judgeTests r paths walk b)) stands)
 
     -- the standing walk lies within its area
     pub walk-fits : r .length ≤ length walk
@@ -79,12 +79,12 @@ module _ (b : Book) (r : Record) (paths walk : List ℕ) where
         ∙ answered passed none (left-over passed)
 
     module _ (p : List ℕ) where
-      pub said-fails : {q : Refusal} → Fails (saidTests r paths walk (failed p) b) q
+      pub said-fails : {q : Refusal} → Fails (saidTests (graph b) (stateOf r paths walk) (failed p)) q
           → answering (Reported.Refused q r) paths walk ≡ reportingOf (accepted b) r paths walk (failed p)
       said-fails {q} f = answered (failed p) (some q) (left-over (failed p) ∙ first-fails f)
 
-      pub ready : Hold (saidTests r paths walk (failed p) b) → refusalBy (reportTests r paths walk (failed p) b) ≡ none
-      ready h = left-over (failed p) ∙ hold→none (saidTests r paths walk (failed p) b) h
+      pub ready : Hold (saidTests (graph b) (stateOf r paths walk) (failed p)) → refusalBy (reportTests r paths walk (failed p) b) ≡ none
+      ready h = left-over (failed p) ∙ hold→none (saidTests (graph b) (stateOf r paths walk) (failed p)) h
 
 -- ---- an accepted failed report
 paste-front : (d rest s : List ℕ) (at n : ℕ) → at + n ≤ length d → paste (d ++ rest) at s n ≡ paste d at s n ++ rest

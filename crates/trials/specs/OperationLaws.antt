@@ -1,7 +1,7 @@
 -- Laws of a report: what an accepted one has passed, and that a report in trials is a step of theirs.
 use Prim.Native.Nat.{ℕ, _≤_}
 use mathlib.Core.Bool.{true, _&&_}
-use mathlib.Core.List.{List, [], _∷_, _++_}
+use mathlib.Core.List.{List, _∷_, _++_}
 use mathlib.Core.Option.{none}
 use mathlib.Core.Path.{_≡_, refl, sym, ap, ap₂, _∙_}
 use native.Mathlib.Omega.{arith}
@@ -21,7 +21,7 @@ use Rattle.rules.specs.AreaLaws.{length-blocks}
 use Rattle.rules.specs.ValidLaws.{valid→Valid, written-length, written-valid, written-spells}
 use Rattle.automaton.specs.Chosen.{chosen}
 use Rattle.trial_record.specs.declared.Record.{Record}
-use Rattle.trial_rules.specs.Trials.{Report, State, pathArea, areaTests, isNamed, hasRoom, ForbiddenSet, isForbiddenSet, isRecord, isValid, Valid, refusal, step}
+use Rattle.trial_rules.specs.Trials.{Report, State, pathArea, areaTests, saidTests, ForbiddenSet, isForbiddenSet, isRecord, isValid, Valid, refusal, step}
 use Rattle.trials.specs.Operations.{reportedAs, reportingOf}
 use Rattle.judging.specs.Judging.{stateOf, reportTests}
 use Rattle.trial_rules.specs.Tests.{forbidden-set, once→Distinct, set-paths, set-once, →isForbiddenSet, Valid→isValid, isValid→Valid}
@@ -99,7 +99,7 @@ module _ (b : Book) (σ : State) (v : Valid (graph b) σ) (ρ : Report) where
   unfolding refusal
   same-refusal =
       let g = graph b in
-      ap (λ (τ : State). refusalBy (areaTests (pathArea σ) (σ .area) ++ (test 9 (valid (b .count) (pathArea σ) (σ .rec .known)) ∷ test 9 (isRecord g τ) ∷ test 11 (eqb (σ .rec .stage) 0) ∷ test 12 (isNamed g τ ρ) ∷ test 13 (hasRoom τ ρ) ∷ []))) same-state
+      ap (λ (τ : State). refusalBy (areaTests (pathArea σ) (σ .area) ++ (test 9 (valid (b .count) (pathArea σ) (σ .rec .known)) ∷ test 9 (isRecord g τ) ∷ test 11 (eqb (σ .rec .stage) 0) ∷ saidTests g τ ρ))) same-state
       ∙ rw (area-valid b σ (v .set) (v .known), record-part g σ v, T→true (isValid g σ) (Valid→isValid g σ v)) refl
 
   -- ... and leaves what the step leaves.
