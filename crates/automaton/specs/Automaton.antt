@@ -11,12 +11,12 @@ use lib.Seq.{take-length, getD-take}
 use mir.Facts.{or-yes}
 use Rattle.lists.specs.Test.{conj, any, any→some, some→any, or-left, or-right, T-ext}
 use Rattle.walks.specs.Avoid.{Occurs, occurs, isPrefix, isPrefix→append, isPrefix-refl, same, same→≡, same-refl, occurs→Occurs, Occurs→occurs, Occurs·reverse, Avoids, Long}
-use Rattle.automaton.specs.Longest.{longest, longest-is, longest-cons, isPrefix→longest, longest→isPrefix}
+use Rattle.automaton.specs.Longest.{longestFront, longest-is, longest-cons, isPrefix→longest, longest→isPrefix}
 use Rattle.automaton.specs.States.{State, prefix, isState, latest, State·closed, isState→State, State→isState}
 
 -- The state of a walk: its longest suffix that is a state.
 unfoldable pub state : List (List ℕ) → List ℕ → List ℕ
-state F w = longest (isState F) (length w) w
+state F w = longestFront (isState F) (length w) w
 
 -- The step from a state over a vertex.
 unfoldable pub go : List (List ℕ) → List ℕ → ℕ → List ℕ
@@ -25,7 +25,7 @@ go F q v = state F (v ∷ q)
 -- The failure link of a state: its longest proper suffix that is a state, or [].
 unfoldable pub fail : List (List ℕ) → List ℕ → List ℕ
 fail F [] = []
-fail F (v ∷ q) = longest (isState F) (length q) (v ∷ q)
+fail F (v ∷ q) = longestFront (isState F) (length q) (v ∷ q)
 
 -- The walk w ends with the path r.
 abbrev pub endsWith : List ℕ → List ℕ → Bool
@@ -101,17 +101,17 @@ module _ (F : List (List ℕ)) where
   go-cases (u ∷ q) v = ap (λ (x : List ℕ). cond (isState F (v ∷ u ∷ x)) (v ∷ u ∷ x) (fail F (v ∷ u ∷ q))) (take-length q) ∙ rw (fail-cons v u q)
 
   -- A forbidden path, within the bound, is a suffix of w.v exactly if it is one of q.v, where q is the longest state that is a suffix of w.
-  ends→longest : {r : List ℕ} → List·Memᴰ r F → (n v : ℕ) (w : List ℕ) → length r ≤ suc n → T (endsWith (v ∷ w) r) → T (endsWith (v ∷ longest (isState F) n w) r)
+  ends→longest : {r : List ℕ} → List·Memᴰ r F → (n v : ℕ) (w : List ℕ) → length r ≤ suc n → T (endsWith (v ∷ w) r) → T (endsWith (v ∷ longestFront (isState F) n w) r)
   ends→longest {r} m n v w h = cases (reverse r) refl
     where
-      cases : (p : List ℕ) → reverse r ≡ p → T (isPrefix p (v ∷ w)) → T (isPrefix p (v ∷ longest (isState F) n w))
+      cases : (p : List ℕ) → reverse r ≡ p → T (isPrefix p (v ∷ w)) → T (isPrefix p (v ∷ longestFront (isState F) n w))
       cases [] e t = tt
       cases (a ∷ p) e t =
           let shorter : length p ≤ n = omega (arith, rw length-reverse at (ap length e)) in
           let proper : 0 < length p → T (isState F p) = λ l. State→isState F p (prefix m a [] (sym (reverse-reverse r) ∙ ap reverse e) l) in
           search (conj, isPrefix→longest (isState F) n p w shorter proper (search conj))
 
-  longest→ends : (p : List ℕ) (n v : ℕ) (w : List ℕ) → T (isPrefix p (v ∷ longest (isState F) n w)) → T (isPrefix p (v ∷ w))
+  longest→ends : (p : List ℕ) (n v : ℕ) (w : List ℕ) → T (isPrefix p (v ∷ longestFront (isState F) n w)) → T (isPrefix p (v ∷ w))
   longest→ends [] n v w t = tt
   longest→ends (a ∷ p) n v w t = search (conj, longest→isPrefix (isState F) n p w (search conj))
 

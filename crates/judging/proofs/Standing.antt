@@ -41,47 +41,37 @@ module _ (vertices : ℕ) (paths : List ℕ) (known : ℕ) (w : List ℕ) where
       refuted (avoids (spelled known paths) w)
       (λ e. ne (Avoids→clear (spelled known paths) w (avoids→Avoids (spelled known paths) w (true→T (avoids (spelled known paths) w) e))))
 
--- ---- the five tests
-five : Bool → Bool → Bool → Bool → Bool → Bool
-five walks starts ends clear weighs = walks && starts && ends && clear && weighs
-
+-- ---- what the tests of a standing walk come to, by the first that fails
 module _ (g : Graph) (F : List (List ℕ)) (s t : ℕ) (w : List ℕ) (litres : ℕ) where
-  by-five : (x y z u v : Bool) → isWalk g w ≡ x → eqb (getD w 0 0) s ≡ y → eqb (getD w (hops w) 0) t ≡ z → avoids F w ≡ u → eqb litres (weightOf g w) ≡ v
-      → isFeasible g F s t w && eqb litres (weightOf g w) ≡ five x y z u v
-  unfolding five isFeasible
-  by-five x y z u v p q r h k =
-      ap (λ b. five b (eqb (getD w 0 0) s) (eqb (getD w (hops w) 0) t) (avoids F w) (eqb litres (weightOf g w))) p
-      ∙ ap (λ b. five x b (eqb (getD w (hops w) 0) t) (avoids F w) (eqb litres (weightOf g w))) q
-      ∙ ap (λ b. five x y b (avoids F w) (eqb litres (weightOf g w))) r
-      ∙ ap (λ b. five x y z b (eqb litres (weightOf g w))) h
-      ∙ ap (five x y z u) k
+  abbrev Comes : Bool → Type 0
+  Comes x = x ≡ isFeasible g F s t w && eqb litres (weightOf g w)
 
-  pub no-walk : isWalk g w ≡ false → false ≡ isFeasible g F s t w && eqb litres (weightOf g w)
-  unfolding five
-  no-walk h = sym (by-five false _ _ _ _ h refl refl refl refl)
+  pub no-walk : isWalk g w ≡ false → Comes false
+  unfolding isFeasible
+  no-walk h = rw h
 
   module _ (walks : isWalk g w ≡ true) where
-    pub other-start : (getD w 0 0 ≡ s → ⊥) → false ≡ isFeasible g F s t w && eqb litres (weightOf g w)
-    unfolding five
-    other-start h = sym (by-five true false _ _ _ walks (ne-eqb _ _ h) refl refl refl)
+    pub other-start : (getD w 0 0 ≡ s → ⊥) → Comes false
+    unfolding isFeasible
+    other-start h = rw (walks, ne-eqb (getD w 0 0) s h)
 
     module _ (starts : getD w 0 0 ≡ s) where
-      pub other-end : (getD w (length w - 1) 0 ≡ t → ⊥) → false ≡ isFeasible g F s t w && eqb litres (weightOf g w)
-      unfolding five
+      pub other-end : (getD w (length w - 1) 0 ≡ t → ⊥) → Comes false
+      unfolding isFeasible
       other-end h =
-          sym (by-five true true false _ _ walks (eq-eqb _ _ starts) (ne-eqb (getD w (hops w) 0) t (λ e. h (sym (ap (λ n. getD w n 0) (last-place w)) ∙ e))) refl refl)
+          rw (walks, eq-eqb (getD w 0 0) s starts, ne-eqb (getD w (hops w) 0) t (λ e. h (sym (ap (λ n. getD w n 0) (last-place w)) ∙ e)))
 
       module _ (ends : getD w (length w - 1) 0 ≡ t) where
         ends-there : eqb (getD w (hops w) 0) t ≡ true
         ends-there = eq-eqb (getD w (hops w) 0) t (ap (λ n. getD w n 0) (last-place w) ∙ ends)
 
-        pub unclear : avoids F w ≡ false → false ≡ isFeasible g F s t w && eqb litres (weightOf g w)
-        unfolding five
-        unclear h = sym (by-five true true true false _ walks (eq-eqb _ _ starts) ends-there h refl)
+        pub unclear : avoids F w ≡ false → Comes false
+        unfolding isFeasible
+        unclear h = rw (walks, eq-eqb (getD w 0 0) s starts, ends-there, h)
 
-        pub feasible : avoids F w ≡ true → (weight : ℕ) → weight ≡ weightOf g w → eqb weight litres ≡ isFeasible g F s t w && eqb litres (weightOf g w)
-        unfolding five
-        feasible h weight is = sym (by-five true true true true (eqb weight litres) walks (eq-eqb _ _ starts) ends-there h (ap (eqb litres) (sym is) ∙ eqb-sym litres weight))
+        pub feasible : avoids F w ≡ true → (weight : ℕ) → weight ≡ weightOf g w → Comes (eqb weight litres)
+        unfolding isFeasible
+        feasible h weight is = eqb-sym weight litres ∙ ap (eqb litres) is ∙ rw (walks, eq-eqb (getD w 0 0) s starts, ends-there, h)
           where
             eqb-sym : (m n : ℕ) → eqb m n ≡ eqb n m
             eqb-sym m n = iff (eqb m n) (eqb n m) (λ e. eq-eqb n m (sym (eqb-true m n e))) (λ e. eq-eqb m n (sym (eqb-true n m e)))

@@ -45,8 +45,8 @@ module _ {F : List (List ℕ)} {n m : ℕ} {steps blockeds latests : List ℕ} (
   abbrev pub Numbered : List ℕ → Type 0
   Numbered w = (k : ℕ) × Numbers (built .words) k w
 
-  pub numbered : (q : ℕ) → q < m → Numbers (built .words) q (wordOf q)
-  numbered q h = record { below = omega (arith, built .count); is = refl }
+  pub word-numbered : (q : ℕ) → q < m → Numbers (built .words) q (wordOf q)
+  word-numbered q h = record { below = omega (arith, built .count); is = refl }
 
   pub each-numbered : (P : List ℕ → Type 0) → ((q : ℕ) → q < m → P (wordOf q)) → (w : List ℕ) → Numbered w → P w
   each-numbered P f w (k, i) = subst P (i .is) (f k (omega (arith, i .below, built .count)))

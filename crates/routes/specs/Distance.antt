@@ -26,7 +26,7 @@ use Rattle.walks.specs.Weights.{Weights}
 use Rattle.automaton.specs.Count.{mostStates}
 use Rattle.limits.specs.Limits.{heaviest}
 use Rattle.product.specs.Product.{arcAt, stepTo, isOpen, edgeOver, stateEdges, Over, edges-over}
-use Rattle.product.specs.ProductLaws.{getD-mem, wordOf, Numbered, numbered, each-numbered, step-number, step-below, step-weight, step-edge, weighted}
+use Rattle.product.specs.ProductLaws.{getD-mem, wordOf, Numbered, word-numbered, each-numbered, step-number, step-below, step-weight, step-edge, weighted}
 use Rattle.product.specs.Targets.{targets, at-targets, targets-are}
 
 -- The number of a word among words; the length where it is none of them.
@@ -126,7 +126,7 @@ module _ {g : Graph} {F : List (List ℕ)} {m : ℕ} {steps blockeds latests wei
   settled = record { closed = λ w v i. each-numbered built (λ w. Step g F w v → Numbered built (go F w v)) (λ q h s. (stepTo weights steps blockeds latests q v, step-number built table q v h (s .below))) w i; target = each-numbered built (λ w. latest w ≡ t → distance w ≡ some (record { weight = 0; hops = 0 })) target; relaxed = λ w v i. each-numbered built (λ w. Step g F w v → (y : Cost) → distance (go F w v) ≡ some y → (x : Cost) × (distance w ≡ some x) × (x ≤ᶜ via (arcWeight g (latest w) v) y)) (steps-relaxed v) w i }
     where
       target : (q : ℕ) → q < m → latest (wordOf built q) ≡ t → distance (wordOf built q) ≡ some (record { weight = 0; hops = 0 })
-      target q h e = distance-at q (wordOf built q) (numbered built q h) ∙ ap reading (at-end q h e)
+      target q h e = distance-at q (wordOf built q) (word-numbered built q h) ∙ ap reading (at-end q h e)
 
       steps-relaxed : (v q : ℕ) → q < m → Step g F (wordOf built q) v → (y : Cost) → distance (go F (wordOf built q) v) ≡ some y → (x : Cost) × (distance (wordOf built q) ≡ some x) × (x ≤ᶜ via (arcWeight g (latest (wordOf built q)) v) y)
       steps-relaxed v q h s y e =
@@ -138,6 +138,6 @@ module _ {g : Graph} {F : List (List ℕ)} {m : ℕ} {steps blockeds latests wei
           let (arc, small) = step-weight built table q v h s in
           let below : at d q < inf = omega arith in (
             unpacked (at d q),
-            distance-at q (wordOf built q) (numbered built q h) ∙ reading-some (at d q) below,
+            distance-at q (wordOf built q) (word-numbered built q h) ∙ reading-some (at d q) below,
             rw y-is (pack-order (at d q / hopsLimit) (at d q % hopsLimit) (a + at d r / hopsLimit) (suc (at d r % hopsLimit)) (omega arith) (omega arith)),
           )

@@ -25,7 +25,7 @@ use Rattle.automaton.specs.Built.{Built}
 use Rattle.routes.specs.Word.{word, Lowest, word-lowest}
 use Rattle.walks.specs.Weights.{Weights}
 use Rattle.product.specs.Product.{arcAt, stepTo, isOpen, stateEdges}
-use Rattle.product.specs.ProductLaws.{wordOf, Numbered, numbered, open-step, step-open, step-number, step-below, step-weight}
+use Rattle.product.specs.ProductLaws.{wordOf, Numbered, word-numbered, open-step, step-open, step-number, step-below, step-weight}
 use Rattle.product.specs.Targets.{targets}
 use Rattle.routes.specs.Distance.{unpacked, reading, reading-some, reading-none, some-reading, distance, distance-at, bounded, settled, entry-cases}
 
@@ -78,7 +78,7 @@ module _ {g : Graph} {F : List (List ℕ)} {m : ℕ} {steps blockeds latests wei
         step = s;
         rest = unpacked (at d r);
         after = distance-at built table t d final r (go F (wordOf built q) v) (step-number built table q v h b) ∙ reading-some (at d r) (omega arith);
-        here = distance-at built table t d final q (wordOf built q) (numbered built q h) ∙ reading-some (at d q) near ∙ ap {B = Option Cost} some (λ i. record { weight = weight-is i; hops = hops-is i });
+        here = distance-at built table t d final q (wordOf built q) (word-numbered built q h) ∙ reading-some (at d q) near ∙ ap {B = Option Cost} some (λ i. record { weight = weight-is i; hops = hops-is i });
       }
 
   pub Usable→isUsable : (q v : ℕ) → q < m → Usable g F (distance built table t d final) (wordOf built q) v → isUsable weights steps blockeds latests d q v ≡ true
@@ -88,7 +88,7 @@ module _ {g : Graph} {F : List (List ℕ)} {m : ℕ} {steps blockeds latests wei
       let s = u .step in
       let (is, light) = step-weight built table q v h s in
       let (near, rest-is) = some-reading (at d r) (u .rest) (sym (distance-at built table t d final r (go F (wordOf built q) v) (step-number built table q v h (s .below))) ∙ u .after) in
-      let (below, here-is) = some-reading (at d q) (via a (u .rest)) (sym (distance-at built table t d final q (wordOf built q) (numbered built q h)) ∙ u .here) in
+      let (below, here-is) = some-reading (at d q) (via a (u .rest)) (sym (distance-at built table t d final q (wordOf built q) (word-numbered built q h)) ∙ u .here) in
       let weight-is : a + at d r / hopsLimit ≡ at d q / hopsLimit = omega (arith, ap (λ (x : Cost). x .weight) here-is, ap (λ (x : Cost). x .weight) rest-is) in
       let hops-is : suc (at d r % hopsLimit) ≡ at d q % hopsLimit = omega (arith, ap (λ (x : Cost). x .hops) here-is, ap (λ (x : Cost). x .hops) rest-is) in
       rw (step-open built table q v h s, eq-eqb (at d r + pack (arcAt weights steps blockeds latests q v) 1) (at d q) (omega arith))

@@ -34,7 +34,7 @@ use Rattle.trial_rules.specs.Trials.{Report, passed, failed, State, ForbiddenSe
 use Rattle.trial_record.specs.Steps.{passedOf, failedOf, replanned, Recordable}
 use Rattle.trials.specs.Operations.{answering, reportedAs, reportingOf}
 use Rattle.judging.specs.Judging.{stateOf, judgeTests, reportTests, judgedAs}
-use Rattle.trials.specs.OperationLaws.{Passed, passed-tests}
+use Rattle.trials.specs.OperationLaws.{TestsPassed, passed-tests}
 use Rattle.trial_rules.specs.Tests.{set-paths, set-once}
 use Rattle.trial_rules.specs.Invariant.{one-more}
 use Rattle.trials.specs.Replanning.{Held, held, chosen-planner}
@@ -92,7 +92,7 @@ paste-front d rest s at n fits =
     ap₂ (λ x y. x ++ take n s ++ y) (take-append-le at d rest (omega arith)) (drop-append-le (at + n) d rest fits) ∙ simp append-assoc
 
 module _ (b : Book) (w : WellFormed b) (r : Record) (paths walk p : List ℕ) (e : refusalBy (reportTests r paths walk (failed p) b) ≡ none) where
-  abbrev h : Passed b r paths walk (failed p)
+  abbrev h : TestsPassed b r paths walk (failed p)
   h = passed-tests b r paths walk (failed p) e
 
   abbrev F : List (List ℕ)

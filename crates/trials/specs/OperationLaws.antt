@@ -60,13 +60,13 @@ module _ (g : Graph) (σ : State) where
 
 -- ---- an accepted report
 -- What it has passed.
-pub record Passed (b : Book) (r : Record) (paths walk : List ℕ) (ρ : Report) : Type 0 where
+pub record TestsPassed (b : Book) (r : Record) (paths walk : List ℕ) (ρ : Report) : Type 0 where
   pub paths-fit : areaSize ≤ length paths
   pub accepts : Accepts (graph b) (stateOf r paths walk) ρ
   pub area-is : pathArea (stateOf r paths walk) ≡ paths
 
 module _ (b : Book) (r : Record) (paths walk : List ℕ) where
-  pub passed-tests : (ρ : Report) → refusalBy (reportTests r paths walk ρ b) ≡ none → Passed b r paths walk ρ
+  pub passed-tests : (ρ : Report) → refusalBy (reportTests r paths walk ρ b) ≡ none → TestsPassed b r paths walk ρ
   passed-tests ρ e =
       let g = graph b in
       let σ = stateOf r paths walk in
