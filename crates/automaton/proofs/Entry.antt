@@ -6,7 +6,7 @@ use native.Mathlib.Omega.{arith}
 use lib.Bits.{bitOr}
 use lib.ListN.{length, getD, set}
 use lib.Pow.{shl-exact}
-use Rattle.automaton.specs.Count.{mostStates}
+use Rattle.states.specs.Count.{mostStates}
 use Rattle.automaton.specs.Area.{Spells}
 use Rattle.automaton.specs.Progress.{Progress}
 use Rattle.automaton.specs.Words.{index-member}

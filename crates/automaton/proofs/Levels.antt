@@ -9,11 +9,11 @@ use native.Mathlib.Decide.{ℕ-discrete, decLt}
 use lib.Dec.{T}
 use lib.ListN.{length, getD, set, length-append, length-set, length-reverse, List·getD-append}
 use lib.Seq.{getD-set-same, getD-set-other, getD-at}
-use Rattle.automaton.specs.States.{State, vertex, latest}
-use Rattle.automaton.specs.Automaton.{go, fail, blocked, fail-single, fail-shorter, go-cases, blocked-nil}
+use Rattle.states.specs.States.{State, vertex, latest}
+use Rattle.states.specs.Automaton.{go, fail, blocked, fail-single, fail-shorter, go-cases, blocked-nil}
 use Rattle.lists.specs.Distinct.{Distinct}
 use Rattle.limits.specs.Limits.{mostPaths}
-use Rattle.automaton.specs.Count.{statesOf, mostStates}
+use Rattle.states.specs.Count.{statesOf, mostStates}
 use Rattle.automaton.specs.Built.{Numbers, bit, flag, Built}
 use Rattle.automaton.specs.Rows.{Copied}
 use Rattle.automaton.specs.Area.{Bounded}

@@ -10,8 +10,8 @@ use lib.ListN.{length, getD, take, drop, length-append, length-reverse}
 use lib.Seq.{take-suc, take-at, length-take-le, split-at}
 use mir.Facts.{or-yes}
 use Rattle.lists.specs.Test.{or-left, or-right}
-use Rattle.automaton.specs.States.{State, vertex, prefix, isState, latest, isState→State, State→isState}
-use Rattle.automaton.specs.Automaton.{go, fail, blocked, forbidden, fail-cons, fail-shorter, go-cases, blocked-cases, forbidden→member, member→forbidden}
+use Rattle.states.specs.States.{State, vertex, prefix, isState, latest, isState→State, State→isState}
+use Rattle.states.specs.Automaton.{go, fail, blocked, forbidden, fail-cons, fail-shorter, go-cases, blocked-cases, forbidden→member, member→forbidden}
 use Rattle.automaton.specs.Built.{Numbers}
 use Rattle.automaton.specs.Progress.{Row, Other}
 use Rattle.automaton.specs.Words.{member-index, index-member, number-member}

@@ -8,10 +8,10 @@ use native.Mathlib.Decide.{ℕ-discrete, decLt}
 use lib.Bits.{bitOr}
 use lib.ListN.{length, getD, set, length-append, length-set}
 use lib.Seq.{getD-set-same, getD-set-other}
-use Rattle.automaton.specs.States.{State, latest}
-use Rattle.automaton.specs.Automaton.{go, fail}
+use Rattle.states.specs.States.{State, latest}
+use Rattle.states.specs.Automaton.{go, fail}
 use Rattle.lists.specs.Distinct.{Distinct}
-use Rattle.automaton.specs.Count.{statesOf, mostStates, state-bound, few-states}
+use Rattle.states.specs.Count.{statesOf, mostStates, state-bound, few-states}
 use Rattle.automaton.specs.Built.{Numbers, bit}
 use Rattle.automaton.specs.Progress.{Row, Other, BitKnown, raised, clear, Room, Progress}
 use Rattle.automaton.specs.Words.{index-member, distinct-snoc, number-unique, number-of, old-word, number-more, number-new}

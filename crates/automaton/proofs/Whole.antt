@@ -6,7 +6,7 @@ use native.Mathlib.Nat.{add-zero}
 use native.Mathlib.Numerals.{add-one}
 use native.Mathlib.Omega.{arith}
 use lib.ListN.{length, getD}
-use Rattle.automaton.specs.Count.{statesOf}
+use Rattle.states.specs.Count.{statesOf}
 use Rattle.automaton.specs.Area.{Spells, Bounded}
 use Rattle.automaton.specs.Progress.{Room, Progress}
 use Rattle.automaton.specs.Rows.{Singles, Starts}

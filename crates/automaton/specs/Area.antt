@@ -7,7 +7,7 @@ use lib.ListN.{length, getD, length-append, List·getD-append}
 use lib.Seq.{getD-append-add}
 use Rattle.walks.specs.Avoid.{Long}
 use Rattle.limits.specs.Limits.{mostVertices, mostPaths, entrySize, longestPath}
-use Rattle.automaton.specs.Count.{Below}
+use Rattle.states.specs.Count.{Below}
 
 -- The first `count` entries are the paths of F.
 pub record Spells (area : List ℕ) (count : ℕ) (F : List (List ℕ)) : Type 0 where

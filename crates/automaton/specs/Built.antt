@@ -5,9 +5,9 @@ use mathlib.Core.Path.{_≡_}
 use Prim.Native.Nat.{ℕ, _+_, _*_, _/_, _%_, _^_, _<_, _≤_}
 use lib.ListN.{length, getD}
 use Rattle.limits.specs.Limits.{mostVertices}
-use Rattle.automaton.specs.States.{latest}
-use Rattle.automaton.specs.Automaton.{go, blocked}
-use Rattle.automaton.specs.Count.{statesOf, mostStates, States}
+use Rattle.states.specs.States.{latest}
+use Rattle.states.specs.Automaton.{go, blocked}
+use Rattle.states.specs.Count.{statesOf, mostStates, States}
 
 -- k is the number of the word w.
 pub record Numbers (words : List (List ℕ)) (k : ℕ) (w : List ℕ) : Type 0 where

@@ -1,12 +1,3 @@
-pub mod Longest
-pub mod States
-pub mod Automaton
-pub mod Follow
-pub mod Count
-pub mod Cost
-pub mod Greedy
-pub mod Short
-pub mod Chosen
 pub mod Area
 pub mod Built
 pub mod Words

@@ -5,11 +5,11 @@ use mathlib.Core.Path.{_≡_}
 use Prim.Native.Nat.{ℕ, suc, _+_, _*_, _<_, _≤_}
 use lib.Dec.{T}
 use lib.ListN.{length, getD, take}
-use Rattle.automaton.specs.States.{State, latest}
-use Rattle.automaton.specs.Automaton.{go, fail, blocked}
+use Rattle.states.specs.States.{State, latest}
+use Rattle.states.specs.Automaton.{go, fail, blocked}
 use Rattle.lists.specs.Distinct.{Distinct}
 use Rattle.automaton.specs.Area.{Spells, Bounded}
-use Rattle.automaton.specs.Count.{statesOf}
+use Rattle.states.specs.Count.{statesOf}
 use Rattle.automaton.specs.Built.{Numbers, bit}
 use Rattle.limits.specs.Limits.{mostPaths, mostVertices}
 

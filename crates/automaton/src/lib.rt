@@ -4,7 +4,7 @@ ghost use mathlib.Core.Path.{_≡_};
 ghost use Prim.Native.Nat.{ℕ, _+_, _*_, _<_, _≤_};
 ghost use lib.ListN.{length};
 ghost use Rattle.limits.specs.Limits.{mostVertices, mostPaths, entrySize};
-ghost use Rattle.automaton.specs.Count.{statesOf};
+ghost use Rattle.states.specs.Count.{statesOf};
 ghost use Rattle.automaton.specs.Area.{Spells, Bounded, Given};
 ghost use Rattle.automaton.specs.Built.{Built};
 ghost use Rattle.automaton.specs.Progress.{Room, Progress, Reached, Waiting};

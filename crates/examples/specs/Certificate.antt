@@ -11,11 +11,11 @@ use Rattle.lists.specs.Test.{conj, any, any→some, all, all→each, allBelow, 
 use Rattle.walks.specs.Graph.{Graph, isArc, arcWeight}
 use Rattle.walks.specs.Avoid.{same, same→≡, avoids, avoids→Avoids}
 use Rattle.walks.specs.Best.{Best, None}
-use Rattle.automaton.specs.States.{latest}
-use Rattle.automaton.specs.Automaton.{go, blocked}
-use Rattle.automaton.specs.Follow.{Step}
-use Rattle.automaton.specs.Cost.{Cost, _≤ᶜ_, via}
-use Rattle.automaton.specs.Greedy.{Settled, Usable, Greedy, greedy-best, settled-none}
+use Rattle.states.specs.States.{latest}
+use Rattle.states.specs.Automaton.{go, blocked}
+use Rattle.states.specs.Follow.{Step}
+use Rattle.states.specs.Cost.{Cost, _≤ᶜ_, via}
+use Rattle.states.specs.Greedy.{Settled, Usable, Greedy, greedy-best, settled-none}
 
 -- A state with its distance to the end, none where the end cannot be reached.
 pub record Entry : Type 0 where

@@ -19,7 +19,7 @@ use Rattle.book.specs.Book.{Book, WellFormed, allPaths, graph, isPath, simple, 
 use Rattle.book.specs.BookLaws.{reading-is-book}
 use Rattle.book.specs.Reading.{accepted, reading, readAs}
 use Rattle.examples.specs.Books.{bytesA, bookA, book-A, bytesWays, bookWays, book-ways, bytesShortcut, bookShortcut, book-shortcut, count-64, count-65, no-body}
-use Rattle.automaton.specs.Chosen.{chosen}
+use Rattle.states.specs.Chosen.{chosen}
 use Rattle.examples.specs.Walks.{marks-3, named-123, named-13}
 use Rattle.rules.specs.Binding.{covers, applied, known, once}
 use Rattle.limits.specs.Limits.{areaSize, longest}

@@ -9,7 +9,7 @@ use Rattle.walks.specs.Walk.{weightOf, hops}
 use Rattle.walks.specs.Avoid.{Long}
 use Rattle.walks.specs.Best.{Best, None, Best·stay}
 use Rattle.examples.specs.GraphA.{arc, bookA, forbiddenA, bestA}
-use Rattle.automaton.specs.Automaton.{state, go, blocked}
+use Rattle.states.specs.Automaton.{state, go, blocked}
 use Rattle.examples.specs.Certificate.{Entry, certified-best, certified-none}
 
 -- The best walk is w, at weight n and k hops (01: what planning answers).

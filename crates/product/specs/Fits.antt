@@ -8,7 +8,7 @@ use lib.ListN.{length, getD}
 use Rattle.walks.specs.Graph.{Graph}
 use Rattle.automaton.specs.Built.{Built}
 use Rattle.walks.specs.Weights.{Weights}
-use Rattle.automaton.specs.Count.{mostStates}
+use Rattle.states.specs.Count.{mostStates}
 use Rattle.limits.specs.Limits.{heaviest, mostVertices}
 use Rattle.product.specs.Product.{arcAt, stepTo, isOpen}
 use Rattle.product.specs.ProductLaws.{stands-below, open-step, step-weight, step-below}

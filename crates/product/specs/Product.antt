@@ -10,7 +10,7 @@ use lib.Dec.{eqb}
 use lib.ListN.{getD}
 use Rattle.distances.specs.Edge.{Edge, _∈_}
 use Rattle.distances.specs.Pack.{pack}
-use Rattle.automaton.specs.Automaton.{go}
+use Rattle.states.specs.Automaton.{go}
 use Rattle.automaton.specs.Built.{bit}
 use Rattle.limits.specs.Limits.{noArc, mostVertices}
 

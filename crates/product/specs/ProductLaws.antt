@@ -12,9 +12,9 @@ use Rattle.lists.specs.Test.{and-true}
 use Rattle.walks.specs.Graph.{Graph, isSome, arcWeight}
 use Rattle.distances.specs.Edge.{Edge, _∈_}
 use Rattle.distances.specs.Pack.{pack, Weighted, hopsLimit}
-use Rattle.automaton.specs.States.{latest}
-use Rattle.automaton.specs.Automaton.{go, blocked}
-use Rattle.automaton.specs.Follow.{Step}
+use Rattle.states.specs.States.{latest}
+use Rattle.states.specs.Automaton.{go, blocked}
+use Rattle.states.specs.Follow.{Step}
 use Rattle.automaton.specs.Built.{Built, Numbers, bit, flag}
 use Rattle.limits.specs.Limits.{noArc, heaviest}
 use Rattle.walks.specs.Weights.{Weights}

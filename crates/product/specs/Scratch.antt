@@ -12,7 +12,7 @@ use Rattle.distances.specs.Edge.{edges, Within}
 use Rattle.distances.specs.Table.{at, inf, passes}
 use Rattle.distances.specs.Ready.{Ready, ready-head}
 use Rattle.distances.specs.Chain.{Linked}
-use Rattle.automaton.specs.Count.{mostStates}
+use Rattle.states.specs.Count.{mostStates}
 use Rattle.product.specs.Product.{stateEdges, edges-over}
 use Rattle.product.specs.Columns.{Columns, columns-edges}
 use Rattle.product.specs.Targets.{targets, length-targets, targets-are}

@@ -10,7 +10,7 @@ ghost use lib.Dec.{eqb};
 ghost use lib.ListN.{length};
 ghost use Rattle.distances.specs.Edge.{Edge, edges};
 ghost use Rattle.distances.specs.Table.{passes};
-ghost use Rattle.automaton.specs.Count.{mostStates};
+ghost use Rattle.states.specs.Count.{mostStates};
 ghost use Rattle.limits.specs.Limits.{mostVertices, noArc};
 ghost use Rattle.product.specs.Product.{edgesFrom, stateEdges};
 ghost use Rattle.product.specs.Columns.{Columns};

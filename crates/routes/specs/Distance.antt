@@ -16,14 +16,14 @@ use Rattle.distances.specs.Table.{at, inf, Least, passes}
 use Rattle.distances.specs.Pack.{pack, pack-order, found, best-bounds, hopsLimit}
 use Rattle.distances.specs.Shorten.{passes-least-of-all}
 use Rattle.distances.specs.Bellman.{least-edge, first-edge}
-use Rattle.automaton.specs.States.{latest}
-use Rattle.automaton.specs.Automaton.{go}
-use Rattle.automaton.specs.Follow.{Step}
-use Rattle.automaton.specs.Cost.{Cost, _≤ᶜ_, via}
-use Rattle.automaton.specs.Greedy.{Settled}
+use Rattle.states.specs.States.{latest}
+use Rattle.states.specs.Automaton.{go}
+use Rattle.states.specs.Follow.{Step}
+use Rattle.states.specs.Cost.{Cost, _≤ᶜ_, via}
+use Rattle.states.specs.Greedy.{Settled}
 use Rattle.automaton.specs.Built.{Built, Numbers}
 use Rattle.walks.specs.Weights.{Weights}
-use Rattle.automaton.specs.Count.{mostStates}
+use Rattle.states.specs.Count.{mostStates}
 use Rattle.limits.specs.Limits.{heaviest}
 use Rattle.product.specs.Product.{arcAt, stepTo, isOpen, edgeOver, stateEdges, Over, edges-over}
 use Rattle.product.specs.ProductLaws.{getD-mem, wordOf, Numbered, word-numbered, each-numbered, step-number, step-below, step-weight, step-edge, weighted}

@@ -10,7 +10,7 @@ use Rattle.walks.specs.Avoid.{Avoids}
 use Rattle.walks.specs.Best.{Best, None}
 use Rattle.distances.specs.Table.{at, inf, passes}
 use Rattle.automaton.specs.Area.{Spells, Bounded, Given}
-use Rattle.automaton.specs.Count.{mostStates, states-longest}
+use Rattle.states.specs.Count.{mostStates, states-longest}
 use Rattle.automaton.specs.Built.{Built}
 use Rattle.distances.specs.Pack.{hopsLimit}
 use Rattle.limits.specs.Limits.{longest}

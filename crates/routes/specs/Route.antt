@@ -17,10 +17,10 @@ use Rattle.walks.specs.Avoid.{Avoids}
 use Rattle.walks.specs.Best.{Best, None}
 use Rattle.distances.specs.Table.{at, inf, passes}
 use Rattle.distances.specs.Pack.{pack, hopsLimit}
-use Rattle.automaton.specs.States.{latest}
-use Rattle.automaton.specs.Automaton.{go}
-use Rattle.automaton.specs.Cost.{Cost, via, costOf}
-use Rattle.automaton.specs.Greedy.{Usable, Greedy, greedy-cost, greedy-best, settled-none}
+use Rattle.states.specs.States.{latest}
+use Rattle.states.specs.Automaton.{go}
+use Rattle.states.specs.Cost.{Cost, via, costOf}
+use Rattle.states.specs.Greedy.{Usable, Greedy, greedy-cost, greedy-best, settled-none}
 use Rattle.automaton.specs.Built.{Built}
 use Rattle.routes.specs.Word.{word, Lowest, word-lowest}
 use Rattle.walks.specs.Weights.{Weights}

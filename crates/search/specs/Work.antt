@@ -12,7 +12,7 @@ use Rattle.walks.specs.Graph.{Graph}
 use Rattle.walks.specs.Weights.{Weights}
 use Rattle.distances.specs.Table.{inf, passes}
 use Rattle.automaton.specs.Area.{Spells}
-use Rattle.automaton.specs.Count.{statesOf}
+use Rattle.states.specs.Count.{statesOf}
 use Rattle.automaton.specs.Built.{Built}
 use Rattle.automaton.specs.Progress.{Room}
 use Rattle.product.specs.Scratch.{EdgeRoom, room-less, room-kept}

@@ -6,7 +6,7 @@ ghost use lib.ListN.{length};
 ghost use Rattle.walks.specs.Graph.{Graph};
 ghost use Rattle.walks.specs.Weights.{Weights};
 ghost use Rattle.automaton.specs.Area.{Given};
-ghost use Rattle.automaton.specs.Count.{statesOf, mostStates};
+ghost use Rattle.states.specs.Count.{statesOf, mostStates};
 ghost use Rattle.limits.specs.Limits.{longest};
 ghost use Rattle.routes.specs.Plan.{Asked, SearchedAll};
 ghost use Rattle.search.specs.Work.{usualStates, Work};

@@ -3,7 +3,7 @@ use Prim.Native.Nat.{ℕ, _+_}
 use mathlib.Core.Bool.{Bool, true, false}
 use mathlib.Core.List.{List}
 use lib.ListN.{drop}
-use Rattle.automaton.specs.Chosen.{chosen}
+use Rattle.states.specs.Chosen.{chosen}
 use Rattle.book.specs.Book.{graph}
 use Rattle.book.specs.Reading.{Reading, reading, refusalOf, bookIn}
 use Rattle.trial_record.specs.declared.Record.{Record}

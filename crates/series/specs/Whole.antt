@@ -3,7 +3,7 @@ use Prim.Native.Nat.{ℕ}
 use mathlib.Core.List.{List, [], _∷_, _++_}
 use mathlib.Core.Option.{Option, none, some}
 use mathlib.Core.Path.{_≡_, refl, ap, _∙_}
-use Rattle.automaton.specs.Chosen.{chosen}
+use Rattle.states.specs.Chosen.{chosen}
 use Rattle.book.specs.declared.Refusal.{Refusal}
 use Rattle.book.specs.Book.{Book, graph}
 use Rattle.book.specs.BookLaws.{reading-is-book}

@@ -16,7 +16,7 @@ use Rattle.walks.specs.Best.{Best, None}
 use Rattle.book.specs.declared.Refusal.{Refusal}
 use Rattle.book.specs.Book.{isPath}
 use Rattle.limits.specs.Limits.{mostPaths, areaSize, longest}
-use Rattle.automaton.specs.Chosen.{Decided}
+use Rattle.states.specs.Chosen.{Decided}
 use Rattle.trial_rules.specs.Trials.{Report, passed, failed, State, standing, ForbiddenSet, Valid, Plan, Planner, refusal, overlaid, holding, step, unless, after, run, accepted, EachAccepted, named, failures, passes, replanned, Begin, begun}
 use Rattle.trial_rules.specs.Lacking.{distinct-snoc}
 use Rattle.trial_rules.specs.Accepted.{begin-accepted, Accepts, accepts}

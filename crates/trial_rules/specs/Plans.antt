@@ -5,7 +5,7 @@ use mathlib.Core.List.{List}
 use mathlib.Core.Option.{Option, none, some}
 use Rattle.walks.specs.Graph.{Graph}
 use Rattle.walks.specs.Best.{Best, None, Best·unique, Best·not-None}
-use Rattle.automaton.specs.Chosen.{Decided}
+use Rattle.states.specs.Chosen.{Decided}
 use Rattle.trial_rules.specs.Trials.{ForbiddenSet, Plan, Planner}
 
 module _

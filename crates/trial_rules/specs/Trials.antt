@@ -17,7 +17,7 @@ use Rattle.walks.specs.Feasible.{isFeasible}
 use Rattle.book.specs.declared.Refusal.{Refusal}
 use Rattle.book.specs.Refusal.{Test, test, allHold, refusalBy}
 use Rattle.book.specs.Book.{isPath}
-use Rattle.automaton.specs.Chosen.{Decided}
+use Rattle.states.specs.Chosen.{Decided}
 use Rattle.rules.specs.Binding.{once}
 use Rattle.rules.specs.Area.{written}
 use Rattle.limits.specs.Limits.{mostPaths, areaSize, longest}

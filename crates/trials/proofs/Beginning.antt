@@ -7,7 +7,7 @@ use native.Mathlib.Omega.{arith}
 use lib.ListN.{length, drop}
 use lib.Seq.{paste, take-all}
 use Rattle.limits.specs.Limits.{areaSize}
-use Rattle.automaton.specs.Chosen.{chosen}
+use Rattle.states.specs.Chosen.{chosen}
 use Rattle.book.specs.declared.Refusal.{Refusal}
 use Rattle.book.specs.Book.{Book, WellFormed, graph}
 use Rattle.book.specs.Reading.{accepted}

@@ -11,7 +11,7 @@ use lib.Seq.{paste, set-append-left, take-append-le, drop-append-le}
 use Rattle.lists.specs.Test.{T→true, T-and}
 use Rattle.walks.specs.Graph.{Graph}
 use Rattle.walks.specs.Avoid.{occurs}
-use Rattle.automaton.specs.Chosen.{chosen}
+use Rattle.states.specs.Chosen.{chosen}
 use Rattle.book.specs.declared.Refusal.{Refusal}
 use Rattle.book.specs.Refusal.{refusalBy}
 use Rattle.book.specs.RefusalLaws.{Fails, Hold, first-fails, hold→none, first-kept, first-of-append}

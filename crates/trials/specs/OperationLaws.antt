@@ -19,7 +19,7 @@ use Rattle.rules.specs.Area.{written, blocks, spelled, valid}
 use Rattle.limits.specs.Limits.{areaSize}
 use Rattle.rules.specs.AreaLaws.{length-blocks}
 use Rattle.rules.specs.ValidLaws.{valid→Valid, written-length, written-valid, written-spells}
-use Rattle.automaton.specs.Chosen.{chosen}
+use Rattle.states.specs.Chosen.{chosen}
 use Rattle.trial_record.specs.declared.Record.{Record}
 use Rattle.trial_rules.specs.Trials.{Report, State, pathArea, areaTests, saidTests, ForbiddenSet, isForbiddenSet, isRecord, isValid, Valid, refusal, step}
 use Rattle.trials.specs.Operations.{reportedAs, reportingOf}

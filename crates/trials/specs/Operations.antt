@@ -10,7 +10,7 @@ use Rattle.judging.specs.Judging.{stateOf, reportTests}
 use Rattle.trial_record.specs.declared.Record.{Record}
 use Rattle.trials.specs.declared.Begun.{Begun}
 use Rattle.trials.specs.declared.Reported.{Reported}
-use Rattle.automaton.specs.Chosen.{chosen}
+use Rattle.states.specs.Chosen.{chosen}
 use Rattle.trial_rules.specs.Trials.{Report, State, pathArea, beginTests, begin, step}
 
 -- An operation's answer, and every byte of the runs area and of the line-up area after it.

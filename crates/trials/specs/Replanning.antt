@@ -8,7 +8,7 @@ use lib.ListN.{length}
 use Rattle.lists.specs.Test.{T→true, true→T}
 use Rattle.walks.specs.Graph.{Graph}
 use Rattle.walks.specs.Walk.{hops-length}
-use Rattle.automaton.specs.Chosen.{Decided, chosen, chosen-is}
+use Rattle.states.specs.Chosen.{Decided, chosen, chosen-is}
 use Rattle.book.specs.Book.{Book, WellFormed, graph}
 use Rattle.book.specs.BookLaws.{isPath→IsPath}
 use Rattle.rules.specs.Binding.{known}

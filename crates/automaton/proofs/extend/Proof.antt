@@ -3,7 +3,7 @@ use Prim.Native.Nat.{_+_, _*_, _≤_, _<_}
 use native.Mathlib.Omega.{arith}
 use denote.Ref.{now}
 use lib.ListN.{length, length-set}
-use Rattle.automaton.specs.Count.{mostStates}
+use Rattle.states.specs.Count.{mostStates}
 use Rattle.automaton.proofs.Entry.{entry-room, turn-passed, low-level, cell-room, turn-forbids, turn-found, turn-room, turn-grown}
 use borrow.Author.Needs.{needs}
 use Rattle.automaton.proofs.extend.Statement.{statement}

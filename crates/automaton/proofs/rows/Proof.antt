@@ -5,7 +5,7 @@ use mathlib.Core.Path.{_≡_, refl, subst}
 use native.Mathlib.Omega.{arith}
 use denote.Ref.{now}
 use lib.ListN.{length, getD, length-set}
-use Rattle.automaton.specs.Count.{mostStates}
+use Rattle.states.specs.Count.{mostStates}
 use Rattle.automaton.specs.Progress.{Progress}
 use Rattle.automaton.proofs.Levels.{row-room, row-copied-at}
 use Rattle.automaton.proofs.rows.Statement.{statement}

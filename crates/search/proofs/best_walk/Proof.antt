@@ -1,6 +1,6 @@
 -- `search::best_walk` meets its contract: the states fit the tables that are chosen. Assumes nothing.
 use native.Mathlib.Omega.{arith}
-use Rattle.automaton.specs.Count.{few-states}
+use Rattle.states.specs.Count.{few-states}
 use Rattle.routes.specs.Plan.{Asked}
 use borrow.Author.Needs.{needs}
 use Rattle.search.proofs.best_walk.Statement.{statement}

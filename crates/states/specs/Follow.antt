@@ -13,8 +13,8 @@ use Rattle.walks.specs.Walk.{Walk, Walk·single, Walk·cons, Walk·tail}
 use Rattle.walks.specs.Avoid.{Avoids, Avoids·front}
 use Rattle.walks.specs.Order.{_≼⟨_⟩_}
 use Rattle.walks.specs.Best.{Feasible, Feasible·cons, Best, None}
-use Rattle.automaton.specs.States.{latest}
-use Rattle.automaton.specs.Automaton.{state, go, blocked, state-cons, latest-go, avoids-cons}
+use Rattle.states.specs.States.{latest}
+use Rattle.states.specs.Automaton.{state, go, blocked, state-cons, latest-go, avoids-cons}
 
 -- From state q, no vertex of c is blocked in its turn.
 abbrev pub unblocked : List (List ℕ) → List ℕ → List ℕ → Bool

@@ -10,13 +10,13 @@ use Rattle.walks.specs.Walk.{weightFrom, weightOf, hops-length, weight-bound}
 use Rattle.walks.specs.Avoid.{Avoids, Avoids·front}
 use Rattle.walks.specs.Order.{_≼⟨_⟩_, Tiebreak, Lex}
 use Rattle.walks.specs.Best.{Feasible·cons, Best}
-use Rattle.automaton.specs.States.{State, vertex, latest}
-use Rattle.automaton.specs.Automaton.{go, go-state, latest-go}
-use Rattle.automaton.specs.Follow.{Follows, feasible-follows}
+use Rattle.states.specs.States.{State, vertex, latest}
+use Rattle.states.specs.Automaton.{go, go-state, latest-go}
+use Rattle.states.specs.Follow.{Follows, feasible-follows}
 use Rattle.lists.specs.Distinct.{Distinct}
 use Rattle.limits.specs.Limits.{mostVertices, mostPaths, heaviest, longest, longestPath}
-use Rattle.automaton.specs.Count.{state-count, states-longest}
-use Rattle.automaton.specs.Cost.{_≤ᶜ_, costOf, via-cancel}
+use Rattle.states.specs.Count.{state-count, states-longest}
+use Rattle.states.specs.Cost.{_≤ᶜ_, costOf, via-cancel}
 
 -- The states of the walk c from q.
 abbrev pub trace : List (List ℕ) → List ℕ → List ℕ → List (List ℕ)

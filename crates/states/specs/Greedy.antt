@@ -12,10 +12,10 @@ use Rattle.walks.specs.Walk.{weightFrom}
 use Rattle.walks.specs.Order.{Lex, _≼⟨_⟩_}
 use Rattle.walks.specs.Avoid.{Avoids}
 use Rattle.walks.specs.Best.{Best, None}
-use Rattle.automaton.specs.States.{latest}
-use Rattle.automaton.specs.Automaton.{go, latest-go}
-use Rattle.automaton.specs.Follow.{Step, Follows, follows-best, follows-none}
-use Rattle.automaton.specs.Cost.{Cost, _≤ᶜ_, via, costOf, ≤ᶜ-trans, ≤ᶜ-antisym, via-mono, via-cancel}
+use Rattle.states.specs.States.{latest}
+use Rattle.states.specs.Automaton.{go, latest-go}
+use Rattle.states.specs.Follow.{Step, Follows, follows-best, follows-none}
+use Rattle.states.specs.Cost.{Cost, _≤ᶜ_, via, costOf, ≤ᶜ-trans, ≤ᶜ-antisym, via-mono, via-cancel}
 
 -- D is a settled table of distances to t over the states Q: 0 at t, and no step makes any of them less.
 pub record Settled (g : Graph) (F : List (List ℕ)) (t : ℕ) (Q : List ℕ → Type 0) (D : List ℕ → Option Cost) : Type 0 where

@@ -9,7 +9,7 @@ use lib.ListN.{length}
 use Rattle.walks.specs.Graph.{Graph}
 use Rattle.walks.specs.Walk.{weightFrom}
 use Rattle.walks.specs.Order.{Tiebreak, Tiebreak·trans, Tiebreak·antisym}
-use Rattle.automaton.specs.States.{latest}
+use Rattle.states.specs.States.{latest}
 
 pub record Cost : Type 0 where
   pub weight : ℕ

@@ -9,7 +9,7 @@ use native.Mathlib.Nat.{suc-mul}
 use lib.ListN.{length, getD, take, drop, length-append, length-reverse}
 use lib.Seq.{take-at, length-take-le, split-at}
 use Rattle.walks.specs.Avoid.{_⊆_}
-use Rattle.automaton.specs.States.{State, vertex, prefix, latest}
+use Rattle.states.specs.States.{State, vertex, prefix, latest}
 use Rattle.lists.specs.Distinct.{Distinct, distinct-length, dedup}
 use Rattle.limits.specs.Limits.{mostVertices, mostPaths, longest, longestPath}
 

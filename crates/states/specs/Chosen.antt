@@ -16,12 +16,12 @@ use Rattle.walks.specs.Avoid.{Avoids, Avoids·front}
 use Rattle.walks.specs.Order.{_≼⟨_⟩_, ≼-refl, ≼-trans, ≼-total}
 use Rattle.walks.specs.Best.{Feasible, Feasible·cons, Best, None}
 use Rattle.walks.specs.Feasible.{isFeasible, isFeasible→Feasible, Feasible→isFeasible}
-use Rattle.automaton.specs.States.{vertex, latest}
-use Rattle.automaton.specs.Automaton.{go, latest-go}
-use Rattle.automaton.specs.Follow.{Follows, feasible-follows}
-use Rattle.automaton.specs.Count.{state-count, states-longest}
+use Rattle.states.specs.States.{vertex, latest}
+use Rattle.states.specs.Automaton.{go, latest-go}
+use Rattle.states.specs.Follow.{Follows, feasible-follows}
+use Rattle.states.specs.Count.{state-count, states-longest}
 use Rattle.limits.specs.Limits.{mostVertices, mostPaths, longest, longestPath}
-use Rattle.automaton.specs.Short.{trace, length-trace, rest-of, trace-states, best-bound}
+use Rattle.states.specs.Short.{trace, length-trace, rest-of, trace-states, best-bound}
 
 -- ---- every feasible walk has a short one that does not come after it
 -- From state q: d is c, or has fewer hops and does not weigh more.

@@ -11,8 +11,8 @@ use lib.Seq.{take-length, getD-take}
 use mir.Facts.{or-yes}
 use Rattle.lists.specs.Test.{conj, any, any→some, some→any, or-left, or-right, T-ext}
 use Rattle.walks.specs.Avoid.{Occurs, occurs, isPrefix, isPrefix→append, isPrefix-refl, same, same→≡, same-refl, occurs→Occurs, Occurs→occurs, Occurs·reverse, Avoids, Long}
-use Rattle.automaton.specs.Longest.{longestFront, longest-is, longest-cons, isPrefix→longest, longest→isPrefix}
-use Rattle.automaton.specs.States.{State, prefix, isState, latest, State·closed, isState→State, State→isState}
+use Rattle.states.specs.Longest.{longestFront, longest-is, longest-cons, isPrefix→longest, longest→isPrefix}
+use Rattle.states.specs.States.{State, prefix, isState, latest, State·closed, isState→State, State→isState}
 
 -- The state of a walk: its longest suffix that is a state.
 unfoldable pub state : List (List ℕ) → List ℕ → List ℕ

@@ -1,0 +1,9 @@
+pub mod Longest
+pub mod States
+pub mod Automaton
+pub mod Follow
+pub mod Count
+pub mod Cost
+pub mod Greedy
+pub mod Short
+pub mod Chosen
