@@ -1,7 +1,7 @@
 -- Book A's arcs as a list (01), and lists that are refused.
 use Prim.Native.Nat.{ℕ, _≤_}
 use mathlib.Core.Path.{_≡_, refl}
-use mathlib.Core.List.{List, [], _∷_, _++_}
+use mathlib.Core.List.{List, [], _∷_, _++_, Permᴰ·refl}
 use lib.ListN.{length, drop}
 use Rattle.book.specs.declared.Refusal.the-variants.{Value, Repeated}
 use Rattle.examples.specs.Books.{bytesA, bookA, book-A}
@@ -32,7 +32,7 @@ pub list-A : (area : List ℕ) (F : List (List ℕ)) → binding bytesA 3 area �
     → (r ≡ Walk 450 5) × (new ≡ (0 ∷ 1 ∷ 2 ∷ 1 ∷ 2 ∷ 3 ∷ []) ++ drop 6 old)
 list-A area F is old long r new p =
     sums .marks-3 area F is old long r new
-    (from-book bytesA bookA book-A 4 arcsA refl refl (areaAfter (binding bytesA 3 area) area) (length F) 0 3 old r new p)
+    (from-book bytesA bookA book-A 4 arcsA refl (Permᴰ·refl (bookA .arcs)) (areaAfter (binding bytesA 3 area) area) (length F) 0 3 old r new p)
 
 -- A bad count is 4 at 0, before any item; 64 is read.
 pub no-vertices : listing 0 arcsA ≡ refused (Value 0)
