@@ -1,5 +1,5 @@
--- What a reader must believe: Edge and Table (the graph, its paths, tables and passes), Pack (weight and edges in one number),
--- and Ready, Chain and Settle for the contracts of the code. The rest are theorems.
+-- Meaning for this crate's contracts: Edge and Table (the graph, its paths, tables and passes), Pack (weight and edges in one number), Ready, Chain and Settle.
+-- Laws: the others.
 pub mod Edge
 pub mod Table
 pub mod Pass

@@ -1,3 +1,4 @@
+-- Meaning: Binding, Area (the runs area, and when it is valid) and Operations (what binding answers and leaves). Laws: the others.
 pub mod Binding
 pub mod Area
 pub mod Operations

@@ -1,3 +1,4 @@
+-- How the best walk is found, as theory. It defines: States and Automaton, and Chosen (the best walk as a function, for statements). Laws: the others.
 pub mod Longest
 pub mod States
 pub mod Automaton

@@ -1,3 +1,4 @@
+-- Meaning: Graph, Walk, Avoid, Order and Best, each followed by its laws; Weights (a graph as a table). Laws: Feasible (the test of a feasible walk).
 pub mod Graph
 pub mod Weights
 pub mod Walk
