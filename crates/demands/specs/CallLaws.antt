@@ -147,6 +147,10 @@ module _ (s : List ℕ) (b : Book) (read : reading s ≡ accepted b) where
   answer-is σ v ρ =
       ap (λ (m : Leaves Reported). m .answer) (ap (λ x. reportingOf x (σ .rec) (pathArea σ) (σ .area) ρ) read ∙ same-step b σ v ρ)
 
+  -- One that the rules do not refuse is answered with acceptance.
+  pub accepted-one : (σ : State) → Valid (graph b) σ → (ρ : Report) → refusal (graph b) σ ρ ≡ none → (r : Record) × (answerOn s (leavesOf σ) ρ ≡ Reported.Accepted r)
+  accepted-one σ v ρ e = (next σ ρ .rec, answer-is σ v ρ ∙ ap (λ o. replied o σ ρ) e)
+
   pub only-three : (σ : State) → Valid (graph b) σ → (ρ : Report) → refusal (graph b) σ ρ ≡ refusalBy (oracleTests (graph b) σ ρ)
       → (x : Refusal) (r : Record) → answerOn s (leavesOf σ) ρ ≡ Reported.Refused x r → List·Memᴰ (numberOf x .number) (11 ∷ 12 ∷ 13 ∷ [])
   only-three σ v ρ only x r e =
@@ -195,6 +199,6 @@ module _ (s : List ℕ) (b : Book) (read : reading s ≡ accepted b) where
       unfolding TrueLab EachAccepted
       true-lab R σ c [] h = tt
       true-lab R σ c (ρ ∷ ρs) h = (
-        λ e. true-report R σ ρ (h .0 (next σ ρ .rec) (answer-is σ (c .1 .valid) ρ ∙ ap (λ o. replied o σ ρ) e)),
+        λ e. let a = accepted-one σ (c .1 .valid) ρ e in true-report R σ ρ (h .0 (a .0) (a .1)),
         true-lab R (then σ ρ) (after-keeps t σ ρ (c .0) (c .1)) ρs (subst (λ l. TrueLab R s l ρs) (report-leaves s b read σ (c .1 .valid) ρ) (h .1)),
       )
