@@ -34,7 +34,7 @@ use Rattle.trials.specs.Operations.{Leaves, answering, begunAs, beginning, begi
 use Rattle.trials.specs.OperationLaws.{same-step}
 use Rattle.trials.specs.Replanning.{known-set}
 use Rattle.series.specs.Whole.{leavesOf, reportOn, report-leaves, after-keeps, opened}
-use Rattle.demands.specs.Calls.{opening, answerOn, answersOn, acceptedBy, acceptedOn, TrueReport, TrueLab, HowMany, OfBoth, LabsOnly, LabSet, Free}
+use Rattle.demands.specs.Calls.{opening, answerOn, answersOn, acceptedBy, acceptedOn, TrueReport, TrueLab, HowMany, OfEither, LabsOnly, LabSet, Free}
 
 -- ---- how many
 -- One number at most.
@@ -48,8 +48,8 @@ module _ (b : Book) (w : WellFormed b) (flags : ℕ) (R : List (List ℕ)) where
   abbrev F₀ : List (List ℕ)
   F₀ = known flags (b .sets)
 
-  pub many-of-both : HowMany (OfBoth b flags R) (length (together F₀ R))
-  many-of-both =
+  pub many-of-either : HowMany (OfEither b flags R) (length (together F₀ R))
+  many-of-either =
       let d = together-is F₀ R (known-set flags b w .distinct) in
       record {
         listed = together F₀ R;
@@ -75,27 +75,27 @@ module _ (b : Book) (w : WellFormed b) (flags : ℕ) (R : List (List ℕ)) where
         number = refl;
       }
 
--- ---- walks that are free of both
+-- ---- walks that are free
 module _ {b : Book} {flags : ℕ} {R : List (List ℕ)} {start end : ℕ} {w : List ℕ} where
   pub free→feasible : Free b flags R start end w → Feasible (graph b) (known flags (b .sets) ++ R) start end w
   free→feasible f =
-      let c = f .clear-of-lab in
+      let c = f .avoids-lab in
       record {
         walk = c .walk;
         starts = c .starts;
         ends = c .ends;
         clear =
             λ r m.
-            ⊎-elim (λ k. let a = known→Applied flags (b .sets) k in f .clear-of-sheets (a .set) (a .listed) (a .applying) r (a .path)) (c .clear r)
+            ⊎-elim (λ k. let a = known→Applied flags (b .sets) k in f .avoids-sheets (a .set) (a .listed) (a .applying) r (a .path)) (c .clear r)
             (List·Memᴰ·append-cases (known flags (b .sets)) m);
       }
 
   pub feasible→free : Feasible (graph b) (known flags (b .sets) ++ R) start end w → Free b flags R start end w
   feasible→free f =
       record {
-        clear-of-sheets =
+        avoids-sheets =
             λ set m e r k. f .clear r (Memᴰ·append-left R (Applied→known flags (b .sets) (record { set = set; listed = m; applying = e; path = k })));
-        clear-of-lab =
+        avoids-lab =
             record { walk = f .walk; starts = f .starts; ends = f .ends; clear = Avoids·mono (λ r m. Memᴰ·append-right (known flags (b .sets)) m) (f .clear) };
       }
 
@@ -139,23 +139,23 @@ module _ (s : List ℕ) (b : Book) (read : reading s ≡ accepted b) where
   abbrev next : State → Report → State
   next σ ρ = step (graph b) (chosen (graph b)) σ ρ
 
-  abbrev replied : Option Refusal → State → Report → Reported
-  replied o σ ρ = reportedAs o (next σ ρ) (σ .rec) (pathArea σ) (σ .area) .answer
+  abbrev replied : Option Refusal → State → Report → Leaves Reported
+  replied o σ ρ = reportedAs o (next σ ρ) (σ .rec) (pathArea σ) (σ .area)
 
-  -- A report on a state in order is answered by the rules' refusal.
-  pub answer-is : (σ : State) → Valid (graph b) σ → (ρ : Report) → answerOn s (leavesOf σ) ρ ≡ replied (refusal (graph b) σ ρ) σ ρ
-  answer-is σ v ρ =
-      ap (λ (m : Leaves Reported). m .answer) (ap (λ x. reportingOf x (σ .rec) (pathArea σ) (σ .area) ρ) read ∙ same-step b σ v ρ)
+  -- A report on a state in order is answered by the rules' refusal, or with acceptance.
+  pub report-is : (σ : State) → Valid (graph b) σ → (ρ : Report) (o : Option Refusal) → refusal (graph b) σ ρ ≡ o
+      → reporting s (σ .rec) (pathArea σ) (σ .area) ρ ≡ replied o σ ρ
+  report-is σ v ρ o e = ap (λ x. reportingOf x (σ .rec) (pathArea σ) (σ .area) ρ) read ∙ same-step b σ v ρ ∙ ap (λ x. replied x σ ρ) e
 
-  -- One that the rules do not refuse is answered with acceptance.
-  pub accepted-one : (σ : State) → Valid (graph b) σ → (ρ : Report) → refusal (graph b) σ ρ ≡ none → (r : Record) × (answerOn s (leavesOf σ) ρ ≡ Reported.Accepted r)
-  accepted-one σ v ρ e = (next σ ρ .rec, answer-is σ v ρ ∙ ap (λ o. replied o σ ρ) e)
+  pub answer-is : (σ : State) → Valid (graph b) σ → (ρ : Report) (o : Option Refusal) → refusal (graph b) σ ρ ≡ o
+      → answerOn s (leavesOf σ) ρ ≡ replied o σ ρ .answer
+  answer-is σ v ρ o e = ap (λ (m : Leaves Reported). m .answer) (report-is σ v ρ o e)
 
   pub only-three : (σ : State) → Valid (graph b) σ → (ρ : Report) → refusal (graph b) σ ρ ≡ refusalBy (oracleTests (graph b) σ ρ)
       → (x : Refusal) (r : Record) → answerOn s (leavesOf σ) ρ ≡ Reported.Refused x r → List·Memᴰ (numberOf x .number) (11 ∷ 12 ∷ 13 ∷ [])
   only-three σ v ρ only x r e =
       refused-by-oracle (eqb (σ .rec .stage) 0) (isNamed (graph b) σ ρ) (hasRoom σ ρ) (next σ ρ) (σ .rec) (pathArea σ) (σ .area) x r
-      (sym (answer-is σ v ρ ∙ ap (λ o. replied o σ ρ) only) ∙ e)
+      (sym (answer-is σ v ρ _ only) ∙ e)
 
   -- An accepted begin on the book: the trials that it opens.
   module _ (flags start end : ℕ) (paths walk : List ℕ) where
@@ -185,11 +185,11 @@ module _ (s : List ℕ) (b : Book) (read : reading s ≡ accepted b) where
       unfolding answersOn acceptedBy acceptedFrom
       accepted-are σ c [] = refl
       accepted-are σ c (ρ ∷ ρs) =
-          ap₂ (λ a m. acceptedBy (a ∷ answersOn s m ρs) (ρ ∷ ρs)) (answer-is σ (c .1 .valid) ρ) (report-leaves s b read σ (c .1 .valid) ρ)
+          ap₂ (λ a m. acceptedBy (a ∷ answersOn s m ρs) (ρ ∷ ρs)) (answer-is σ (c .1 .valid) ρ _ refl) (report-leaves s b read σ (c .1 .valid) ρ)
           ∙ go (refusal (graph b) σ ρ) (answersOn s (leavesOf (then σ ρ)) ρs) (acceptedFrom (graph b) (chosen (graph b)) (then σ ρ) ρs) (accepted-are (then σ ρ) (after-keeps t σ ρ (c .0) (c .1)) ρs)
         where
           go : (o : Option Refusal) (answers : List Reported) (done : List Report) → acceptedBy answers ρs ≡ done
-              → acceptedBy (replied o σ ρ ∷ answers) (ρ ∷ ρs) ≡ unless o (ρ ∷ done) done
+              → acceptedBy (replied o σ ρ .answer ∷ answers) (ρ ∷ ρs) ≡ unless o (ρ ∷ done) done
           go none answers done e = ap (λ (l : List Report). ρ ∷ l) e
           go (some x) answers done e = e
 
@@ -199,6 +199,6 @@ module _ (s : List ℕ) (b : Book) (read : reading s ≡ accepted b) where
       unfolding TrueLab EachAccepted
       true-lab R σ c [] h = tt
       true-lab R σ c (ρ ∷ ρs) h = (
-        λ e. let a = accepted-one σ (c .1 .valid) ρ e in true-report R σ ρ (h .0 (a .0) (a .1)),
+        λ e. true-report R σ ρ (h .0 (next σ ρ .rec) (answer-is σ (c .1 .valid) ρ none e)),
         true-lab R (then σ ρ) (after-keeps t σ ρ (c .0) (c .1)) ρs (subst (λ l. TrueLab R s l ρs) (report-leaves s b read σ (c .1 .valid) ρ) (h .1)),
       )

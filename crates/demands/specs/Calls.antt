@@ -67,21 +67,22 @@ pub record HowMany (P : List ℕ → Type 0) (n : ℕ) : Type 0 where
   pub each : (r : List ℕ) → List·Memᴰ r listed ↔ P r
   pub number : length listed ≡ n
 
--- The runs of both: a path of a rule set that applies (01: a run of a sheet that binds the batch), or of the lab's R. And those of R that no
--- such rule set has.
-abbrev pub OfBoth : Book → ℕ → List (List ℕ) → List ℕ → Type 0
-OfBoth b flags R r = Applied flags (b .sets) r ⊎ List·Memᴰ r R
+-- A path of a rule set that applies (01: a run of a sheet that binds the batch), or of the lab's R. A path of R that no such rule set has.
+abbrev pub OfEither : Book → ℕ → List (List ℕ) → List ℕ → Type 0
+OfEither b flags R r = Applied flags (b .sets) r ⊎ List·Memᴰ r R
 
 abbrev pub LabsOnly : Book → ℕ → List (List ℕ) → List ℕ → Type 0
 LabsOnly b flags R r = List·Memᴰ r R × (Applied flags (b .sets) r → ⊥)
 
--- What 01 asks of the lab's R: runs, all over the book's grades; and at most 256 different ones with those of the binding sheets, one in
--- both counted once.
+-- What 01 asks of the lab's R: runs, all over the book's grades; with those of the binding sheets they make at most 256 different ones, one
+-- in both counted once.
 pub record LabSet (b : Book) (flags : ℕ) (R : List (List ℕ)) : Type 0 where
   pub paths : (r : List ℕ) → List·Memᴰ r R → IsPath (b .count) r
-  pub few : (n : ℕ) → HowMany (OfBoth b flags R) n → n ≤ mostPaths
+  pub together : ℕ
+  pub counted : HowMany (OfEither b flags R) together
+  pub few : together ≤ mostPaths
 
--- A walk from start to end (01: line-up) that avoids the paths of each rule set that applies, and all of R.
+-- A walk from start to end (01: a line-up) that avoids all of R, and all paths of each rule set that applies.
 pub record Free (b : Book) (flags : ℕ) (R : List (List ℕ)) (start end : ℕ) (w : List ℕ) : Type 0 where
-  pub clear-of-sheets : (set : RuleSet) → List·Memᴰ set (b .sets) → applies flags set ≡ true → Avoids (set .paths) w
-  pub clear-of-lab : Feasible (graph b) R start end w
+  pub avoids-lab : Feasible (graph b) R start end w
+  pub avoids-sheets : (set : RuleSet) → List·Memᴰ set (b .sets) → applies flags set ≡ true → Avoids (set .paths) w

@@ -20,8 +20,8 @@ use Rattle.rules.specs.Binding.{known}
 use Rattle.rules.specs.Area.{written}
 use Rattle.states.specs.Chosen.{chosen}
 use Rattle.trial_record.specs.declared.Record.{Record}
-use Rattle.trial_rules.specs.Trials.{Report, State, pathArea, ForbiddenSet, Plan, overlaid, run, accepted as acceptedFrom, named, failures, passes, replanned, Begin, begun, beginRefusal, stateAfter, acceptedOf}
-use Rattle.trial_rules.specs.Lacking.{together}
+use Rattle.trial_rules.specs.Trials.{Report, State, pathArea, ForbiddenSet, Plan, overlaid, step, run, accepted as acceptedFrom, named, failures, passes, replanned, Begin, begun, beginRefusal, stateAfter, acceptedOf}
+use Rattle.trial_rules.specs.Lacking.{lacking}
 use Rattle.trial_rules.specs.Invariant.{Invariant, invariant-begin}
 use Rattle.trial_rules.specs.Claim.{claim, refused-as-if-not-made}
 use Rattle.trial_rules.specs.Oracle.{OracleSet, oracle}
@@ -32,7 +32,7 @@ use Rattle.series.specs.Reports.{reportsOf}
 use Rattle.series.specs.Making.{replaying}
 use Rattle.series.specs.Whole.{leavesOf, reportsOn, opened, begin-leaves, reports-leave, replay-leaves}
 use Rattle.demands.specs.Calls.{opening, answerOn, acceptedOn, standingIn, TrueReport, TrueLab, HowMany, LabsOnly, LabSet, Free}
-use Rattle.demands.specs.CallLaws.{how-many-once, many-of-both, many-labs-only, free→feasible, feasible→free, refused-kept, true-report, accepted-one, only-three, begin-ok, accepted-are, true-lab}
+use Rattle.demands.specs.CallLaws.{how-many-once, many-of-either, many-labs-only, free→feasible, feasible→free, refused-kept, true-report, answer-is, only-three, begin-ok, accepted-are, true-lab}
 
 -- ---- what is claimed
 -- In a book b with the bytes s, begin for a batch with these flags, from start to end, got the areas `paths` and `walk`, was accepted and left
@@ -94,8 +94,10 @@ module _ (s : List ℕ) (b : Book) (flags start end : ℕ) (paths walk : List �
     pub failed-counted : l .answer .failed ≡ failures done
     pub passed-counted : l .answer .passed ≡ passes done
     pub trials-counted : l .answer .failed + l .answer .passed ≡ length done
-    pub failed-bounded : (n : ℕ) → HowMany (LabsOnly b flags R) n → l .answer .failed ≤ n
-    pub trials-bounded : (n : ℕ) → HowMany (LabsOnly b flags R) n → l .answer .failed + l .answer .passed ≤ n + 1
+    pub lacked : ℕ
+    pub lacked-are : HowMany (LabsOnly b flags R) lacked
+    pub failed-bounded : l .answer .failed ≤ lacked
+    pub trials-bounded : l .answer .failed + l .answer .passed ≤ lacked + 1
     -- 'While the trials are not over, no true report is refused.'
     pub true-accepted : l .answer .stage ≡ 0 → (ρ : Report) → TrueReport R l ρ → (r : Record) × (answerOn s l ρ ≡ Reported.Accepted r)
     -- 'A passed line-up avoids the binding sheets' runs and all the lab's runs, and every other line-up from start to end that avoids them
@@ -172,7 +174,7 @@ module _ (s : List ℕ) (b : Book) (read : reading s ≡ accepted b) (flags star
       oracle-set =
           record {
             taken = λ r m. true→T _ (IsPath→isPath (b .count) r (set .paths r m));
-            few = set .few (length (together (known flags (b .sets)) R)) (many-of-both b well flags R);
+            few = omega (arith, set .few, how-many-once (set .counted) (many-of-either b well flags R));
           }
 
       lab-here : (ρs : List Report) → TrueLab R s lent ρs → LabOutcome s b flags start end paths walk R lent ρs (acceptedOf t ρs) (leavesOf (stateAfter t ρs))
@@ -181,15 +183,16 @@ module _ (s : List ℕ) (b : Book) (read : reading s ≡ accepted b) (flags star
           let σ = stateAfter t ρs in
           let o = oracle t R oracle-set ρs (true-lab s b read flags start end paths walk ok R (begun t) in-order ρs honest) in
           let rules = ruled-here ρs in
-          let new = many-labs-only b well flags R in
           record {
             rules = rules;
             failed-counted = rules .failed-is;
             passed-counted = rules .passed-is;
             trials-counted = rules .trials-are;
-            failed-bounded = λ n h. omega (arith, o .failed-bounded, how-many-once new h);
-            trials-bounded = λ n h. omega (arith, o .trials-bounded, how-many-once new h);
-            true-accepted = λ e ρ q. accepted-one s b read σ (o .rules .valid) ρ (o .true-accepted e ρ (true-report R σ ρ q));
+            lacked = length (lacking (known flags (b .sets)) R);
+            lacked-are = many-labs-only b well flags R;
+            failed-bounded = o .failed-bounded;
+            trials-bounded = o .trials-bounded;
+            true-accepted = λ e ρ q. (step g (chosen g) σ ρ .rec, answer-is s b read σ (o .rules .valid) ρ none (o .true-accepted e ρ (true-report R σ ρ q)));
             passed-avoids = λ e. feasible→free (o .passed-avoids e);
             passed-litres = o .passed-litres;
             passed-least = λ e v f. o .passed-least e v (free→feasible f);
