@@ -33,6 +33,8 @@ use Rattle.judging.specs.Judging.{stateOf, reportTests}
 use Rattle.trials.specs.Operations.{Leaves, answering, begunAs, beginning, beginningOf, reportedAs, reportingOf, reporting, firstState}
 use Rattle.trials.specs.OperationLaws.{same-step}
 use Rattle.trials.specs.Replanning.{known-set}
+use Rattle.series.specs.Reports.{reportsOf}
+use Rattle.series.specs.Making.{replayingOf, replaying}
 use Rattle.series.specs.Whole.{leavesOf, reportOn, report-leaves, after-keeps, opened}
 use Rattle.demands.specs.Calls.{opening, answerOn, answersOn, acceptedBy, acceptedOn, TrueReport, TrueLab, HowMany, OfEither, LabsOnly, LabSet, Free}
 
@@ -159,15 +161,22 @@ module _ (s : List ℕ) (b : Book) (read : reading s ≡ accepted b) where
 
   -- An accepted begin on the book: the trials that it opens.
   module _ (flags start end : ℕ) (paths walk : List ℕ) where
-    pub begin-ok : (r : Record) → beginning s flags start end paths walk .answer ≡ Begun.Record r → beginRefusal (graph b) start end paths walk ≡ none
-    begin-ok r e = go (beginRefusal (graph b) start end paths walk) refl
+    begun-ok : (σ : State) (r : Record) → begunAs (beginRefusal (graph b) start end paths walk) σ paths walk .answer ≡ Begun.Record r
+        → beginRefusal (graph b) start end paths walk ≡ none
+    begun-ok σ r e = go (beginRefusal (graph b) start end paths walk) e
       where
-        go : (o : Option Refusal) → beginRefusal (graph b) start end paths walk ≡ o → o ≡ none
-        go none p = refl
-        go (some x) p =
-            let refused : Begun.Refused x ≡ Begun.Record r =
-            sym (ap (λ (m : Leaves Begun). m .answer) (ap (λ y. beginningOf y flags start end paths walk) read ∙ ap (λ o. begunAs o (firstState b flags start end paths walk) paths walk) p)) ∙ e in
-            absurd (let z : _≡_ {A = ℕ} 0 1 = cc in omega arith)
+        go : (o : Option Refusal) → begunAs o σ paths walk .answer ≡ Begun.Record r → o ≡ none
+        go none f = refl
+        go (some x) f = absurd (let z : _≡_ {A = ℕ} 0 1 = cc in omega arith)
+
+    pub begin-ok : (r : Record) → beginning s flags start end paths walk .answer ≡ Begun.Record r → beginRefusal (graph b) start end paths walk ≡ none
+    begin-ok r e = begun-ok (firstState b flags start end paths walk) r (sym (ap (λ x. beginningOf x flags start end paths walk .answer) read) ∙ e)
+
+    pub replay-ok : (reports : List ℕ) (r : Record) → replaying s flags start end reports paths walk .answer ≡ Begun.Record r
+        → beginRefusal (graph b) start end paths walk ≡ none
+    replay-ok reports r e =
+        begun-ok (run (graph b) (chosen (graph b)) (firstState b flags start end paths walk) (reportsOf reports)) r
+        (sym (ap (λ x. replayingOf x flags start end reports paths walk .answer) read) ∙ e)
 
     module _ (ok : beginRefusal (graph b) start end paths walk ≡ none) where
       abbrev t : Begin

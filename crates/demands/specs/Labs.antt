@@ -32,7 +32,7 @@ use Rattle.series.specs.Reports.{reportsOf}
 use Rattle.series.specs.Making.{replaying}
 use Rattle.series.specs.Whole.{leavesOf, reportsOn, opened, begin-leaves, reports-leave, replay-leaves}
 use Rattle.demands.specs.Calls.{opening, answerOn, acceptedOn, standingIn, TrueReport, TrueLab, HowMany, LabsOnly, LabSet, Free}
-use Rattle.demands.specs.CallLaws.{how-many-once, many-of-either, many-labs-only, free→feasible, feasible→free, refused-kept, true-report, answer-is, only-three, begin-ok, accepted-are, true-lab}
+use Rattle.demands.specs.CallLaws.{how-many-once, many-of-either, many-labs-only, free→feasible, feasible→free, refused-kept, true-report, answer-is, only-three, begin-ok, replay-ok, accepted-are, true-lab}
 
 -- ---- what is claimed
 -- In a book b with the bytes s, begin for a batch with these flags, from start to end, got the areas `paths` and `walk`, was accepted and left
@@ -201,6 +201,13 @@ module _ (s : List ℕ) (b : Book) (read : reading s ≡ accepted b) (flags star
             none-exactly =
                 λ ne. (λ e w f. o .none-exactly ne .0 e w (free→feasible f), λ n. o .none-exactly ne .1 (λ w f. n w (feasible→free f)));
           }
+
+  -- Where `series::replay` answers a record, begin was accepted.
+  pub replay-begun : (reports : List ℕ) (q : Record) → replaying s flags start end reports paths walk .answer ≡ Begun.Record q
+      → (r : Record) × (beginning s flags start end paths walk .answer ≡ Begun.Record r)
+  replay-begun reports q e =
+      let ok = replay-ok s b read flags start end paths walk reports q e in
+      (lent ok .answer, ap (λ (m : Leaves Begun). m .answer) (begin-leaves s b read flags start end paths walk ok))
 
   -- Of an accepted begin, by its answer.
   module _ (r : Record) (begun-r : beginning s flags start end paths walk .answer ≡ Begun.Record r) where
