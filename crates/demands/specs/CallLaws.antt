@@ -1,5 +1,5 @@
 -- What the words of demand 3 come to in the theory of trials: the answers, the accepted reports, a true lab, its set, and the walks that are free.
-use Prim.Native.Nat.{ℕ, _≤_}
+use Prim.Native.Nat.{ℕ}
 use mathlib.Core.Path.{_≡_, refl, sym, ap, ap₂, subst, _∙_}
 use mathlib.Core.Bool.{Bool, true, false}
 use mathlib.Core.List.{List, [], _∷_, _++_, List·Memᴰ, List·Memᴰ·head, List·Memᴰ·tail, List·Memᴰ·append-cases, Memᴰ·append-left, Memᴰ·append-right}
@@ -9,24 +9,21 @@ use native.Mathlib.Omega.{arith}
 use lib.Dec.{eqb}
 use lib.ListN.{length}
 use Rattle.lists.specs.Distinct.{distinct-length}
-use Rattle.lists.specs.Test.{true→T}
 use Rattle.walks.specs.Avoid.{Avoids·mono}
 use Rattle.walks.specs.Best.{Feasible}
-use Rattle.limits.specs.Limits.{mostPaths}
 use Rattle.book.specs.declared.Refusal.{Refusal}
 use Rattle.book.specs.declared.Refusal.the-variants.{Ended, NotStanding, Full}
 use Rattle.book.specs.Refusal.{numberOf, test, refusalBy}
 use Rattle.book.specs.Book.{Book, WellFormed, graph}
-use Rattle.book.specs.BookLaws.{IsPath→isPath}
 use Rattle.book.specs.Reading.{accepted, reading, refusalOf, bookIn}
 use Rattle.rules.specs.Binding.{known}
 use Rattle.rules.specs.Laws.{known→Applied, Applied→known}
 use Rattle.states.specs.Chosen.{chosen}
 use Rattle.trial_record.specs.declared.Record.{Record}
-use Rattle.trial_rules.specs.Trials.{Report, passed, failed, State, pathArea, isNamed, hasRoom, oracleTests, refusal, Valid, beginRefusal, unless, step, after, run, accepted as acceptedFrom, EachAccepted, Begin, begun}
+use Rattle.trial_rules.specs.Trials.{Report, passed, failed, State, pathArea, isNamed, hasRoom, oracleTests, refusal, Valid, beginRefusal, unless, step, after, run, accepted as acceptedFrom, EachAccepted, Begin}
 use Rattle.trial_rules.specs.Lacking.{lacking, together, together-is, lacking-into, lacking-from, lacking-distinct}
 use Rattle.trial_rules.specs.Invariant.{Invariant}
-use Rattle.trial_rules.specs.Oracle.{OracleSet, TrueTo}
+use Rattle.trial_rules.specs.Oracle.{TrueTo}
 use Rattle.trials.specs.declared.Begun.{Begun}
 use Rattle.trials.specs.declared.Reported.{Reported}
 use Rattle.judging.specs.Judging.{stateOf, reportTests}
@@ -35,8 +32,8 @@ use Rattle.trials.specs.OperationLaws.{same-step}
 use Rattle.trials.specs.Replanning.{known-set}
 use Rattle.series.specs.Reports.{reportsOf}
 use Rattle.series.specs.Making.{replayingOf, replaying}
-use Rattle.series.specs.Whole.{leavesOf, reportOn, report-leaves, after-keeps, opened}
-use Rattle.demands.specs.Calls.{opening, answerOn, answersOn, acceptedBy, acceptedOn, TrueReport, TrueLab, HowMany, OfEither, LabsOnly, LabSet, Free}
+use Rattle.series.specs.Whole.{leavesOf, report-leaves, after-keeps, opened}
+use Rattle.demands.specs.Calls.{answerOn, answersOn, acceptedBy, acceptedOn, TrueReport, TrueLab, HowMany, OfEither, LabsOnly, Free}
 
 -- ---- how many
 -- One number at most.

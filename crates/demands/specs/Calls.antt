@@ -11,19 +11,36 @@ use Rattle.walks.specs.Avoid.{Occurs, Avoids}
 use Rattle.walks.specs.Best.{Feasible}
 use Rattle.limits.specs.Limits.{mostPaths}
 use Rattle.book.specs.Book.{RuleSet, Book, IsPath, graph}
+use Rattle.book.specs.Reading.{accepted, reading}
 use Rattle.rules.specs.Binding.{applies}
 use Rattle.rules.specs.Laws.{Applied}
 use Rattle.trial_record.specs.declared.Record.{Record}
 use Rattle.trial_rules.specs.Trials.{Report, passed, failed}
 use Rattle.trials.specs.declared.Begun.{Begun}
 use Rattle.trials.specs.declared.Reported.{Reported}
-use Rattle.trials.specs.Operations.{Leaves, answering, reporting}
+use Rattle.trials.specs.Operations.{Leaves, answering, beginning, reporting}
 use Rattle.series.specs.Whole.{reportOn}
 
 -- ---- the calls, and their answers
--- What an accepted begin leaves: its record, and both areas.
-abbrev pub opening : Leaves Begun → Record → Leaves Record
-opening m r = answering r (m .paths) (m .walk)
+-- An accepted begin in a book that is read: the book's bytes, a batch with its flags, start and end, both areas as lent; and the record that
+-- it answers.
+pub record AcceptedBegin : Type 0 where
+  pub bytes : List ℕ
+  pub book : Book
+  pub read : reading bytes ≡ accepted book
+  pub flags : ℕ
+  pub start : ℕ
+  pub end : ℕ
+  pub paths : List ℕ
+  pub walk : List ℕ
+  pub rec : Record
+  pub answered : beginning bytes flags start end paths walk .answer ≡ Begun.Record rec
+
+-- What it leaves: its record, and both areas.
+abbrev pub opening : AcceptedBegin → Leaves Record
+opening β =
+    let m = beginning (β .bytes) (β .flags) (β .start) (β .end) (β .paths) (β .walk) in
+    answering (β .rec) (m .paths) (m .walk)
 
 -- What a report answers that is made on record and areas as they stand.
 abbrev pub answerOn : List ℕ → Leaves Record → Report → Reported

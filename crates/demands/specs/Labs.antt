@@ -1,12 +1,13 @@
 -- Demand 3, of begin and the reports as they run, and of `series::replay`.
 use Prim.Native.Nat.{ℕ, _+_, _≤_}
-use mathlib.Core.Path.{_≡_, refl, sym, ap, ap₂, subst, subst₂, subst₃, _∙_}
+use mathlib.Core.Path.{_≡_, refl, sym, ap, ap₂, subst, subst₂, _∙_}
 use mathlib.Core.List.{List, [], _∷_, _++_, List·Memᴰ}
 use mathlib.Core.Logic.{_≢_, _⊎_, _↔_}
 use mathlib.Core.Option.{none}
 use native.Mathlib.Omega.{arith}
 use lib.ListN.{length, drop}
 use Rattle.lists.specs.Test.{true→T}
+use Rattle.walks.specs.Graph.{Graph}
 use Rattle.walks.specs.Walk.{weightOf}
 use Rattle.walks.specs.Order.{_≼⟨_⟩_}
 use Rattle.walks.specs.Best.{Best, None}
@@ -20,7 +21,7 @@ use Rattle.rules.specs.Binding.{known}
 use Rattle.rules.specs.Area.{written}
 use Rattle.states.specs.Chosen.{chosen}
 use Rattle.trial_record.specs.declared.Record.{Record}
-use Rattle.trial_rules.specs.Trials.{Report, State, pathArea, ForbiddenSet, Plan, overlaid, step, run, accepted as acceptedFrom, named, failures, passes, replanned, Begin, begun, beginRefusal, stateAfter, acceptedOf}
+use Rattle.trial_rules.specs.Trials.{Report, ForbiddenSet, Plan, overlaid, step, run, accepted as acceptedFrom, named, failures, passes, replanned, Begin, begun, beginRefusal, stateAfter, acceptedOf}
 use Rattle.trial_rules.specs.Lacking.{lacking}
 use Rattle.trial_rules.specs.Invariant.{Invariant, invariant-begin}
 use Rattle.trial_rules.specs.Claim.{claim, refused-as-if-not-made}
@@ -31,33 +32,37 @@ use Rattle.trials.specs.Operations.{Leaves, answering, firstState, beginning, r
 use Rattle.series.specs.Reports.{reportsOf}
 use Rattle.series.specs.Making.{replaying}
 use Rattle.series.specs.Whole.{leavesOf, reportsOn, opened, begin-leaves, reports-leave, replay-leaves}
-use Rattle.demands.specs.Calls.{opening, answerOn, acceptedOn, standingIn, TrueReport, TrueLab, HowMany, LabsOnly, LabSet, Free}
+use Rattle.demands.specs.Calls.{AcceptedBegin, opening, answerOn, acceptedOn, standingIn, TrueReport, TrueLab, HowMany, LabsOnly, LabSet, Free}
 use Rattle.demands.specs.CallLaws.{how-many-once, many-of-either, many-labs-only, free→feasible, feasible→free, refused-kept, true-report, answer-is, only-three, begin-ok, replay-ok, accepted-are, true-lab}
 
 -- ---- what is claimed
--- In a book b with the bytes s, begin for a batch with these flags, from start to end, got the areas `paths` and `walk`, was accepted and left
--- `first`. Then the reports ρs were made, each on what the one before it left. `done` are those that were answered with acceptance; the
--- record and the areas l stand after the last.
-module _ (s : List ℕ) (b : Book) (flags start end : ℕ) (paths walk : List ℕ) where
-  -- The runs that are known after begin, and the rules' plan under a list of runs.
-  abbrev pub bound : List (List ℕ)
+-- After an accepted begin β the reports ρs were made, each on what the one before it left. `done` are those that were answered with
+-- acceptance; record and areas stand as l after the last.
+module _ (β : AcceptedBegin) where
+  open AcceptedBegin β using (bytes as s, book as b, flags, start, end, paths, walk)
+
+  -- the digraph; the runs that are known after begin; the rules' plan under a list of runs
+  abbrev g : Graph
+  g = graph b
+
+  abbrev bound : List (List ℕ)
   bound = known flags (b .sets)
 
-  abbrev pub planned : Plan
-  planned = chosen (graph b)
+  abbrev plan : Plan
+  plan = chosen g
 
   -- 01, 'Trials', of every list of reports, whether a lab is true or not: record and areas are as the three rules give them.
-  pub record AsRuled (first : Leaves Record) (ρs done : List Report) (l : Leaves Record) : Type 0 where
+  pub record AsRuled (ρs done : List Report) (l : Leaves Record) : Type 0 where
     -- Each report gets record and areas as begin or the report before it left them; accepted ones are those with that answer.
-    pub left : l ≡ reportsOn s first ρs
-    pub answered : done ≡ acceptedOn s first ρs
+    pub left : l ≡ reportsOn s (opening β) ρs
+    pub answered : done ≡ acceptedOn s (opening β) ρs
     -- The record and every byte of both areas are those that the rules give, and the reports that the rules accept are those.
-    pub ruled : l ≡ leavesOf (run (graph b) planned (firstState b flags start end paths walk) ρs)
-    pub accepted-ruled : done ≡ acceptedFrom (graph b) planned (firstState b flags start end paths walk) ρs
+    pub ruled : l ≡ leavesOf (run g plan (firstState b flags start end paths walk) ρs)
+    pub accepted-ruled : done ≡ acceptedFrom g plan (firstState b flags start end paths walk) ρs
     -- A refused report hands back the record as it came and leaves every byte; it is as if not made.
     pub refused-kept : (m : Leaves Record) (ρ : Report) (x : Refusal) (r : Record) → answerOn s m ρ ≡ Reported.Refused x r
         → reporting s (m .answer) (m .paths) (m .walk) ρ ≡ answering (Reported.Refused x (m .answer)) (m .paths) (m .walk)
-    pub as-if-not-made : l ≡ reportsOn s first done
+    pub as-if-not-made : l ≡ reportsOn s (opening β) done
     -- What that comes to. Failed and passed count the accepted reports of their kind, and trials all of them.
     pub start-is : l .answer .start ≡ start
     pub end-is : l .answer .end ≡ end
@@ -72,23 +77,23 @@ module _ (s : List ℕ) (b : Book) (flags start end : ℕ) (paths walk : List �
     pub path-bytes : l .paths ≡ written (bound ++ named done) ++ drop areaSize paths
     pub path-length : length (l .paths) ≡ length paths
     -- Each plan was written over what stood in the line-up area.
-    pub walk-bytes : l .walk ≡ replanned planned start end bound (named done) (overlaid (planned bound start end) walk)
+    pub walk-bytes : l .walk ≡ replanned plan start end bound (named done) (overlaid (plan bound start end) walk)
     pub walk-length : length (l .walk) ≡ length walk
     -- In stages 0 and 1 the best line-up under the known runs stands, with its litres; in stage 2, and just there, there is none.
     pub stage-is : l .answer .stage ≤ 2
-    pub best : l .answer .stage ≢ 2 → Best (graph b) (bound ++ named done) start end (standingIn l)
-    pub litres-are : l .answer .stage ≢ 2 → l .answer .litres ≡ weightOf (graph b) (standingIn l)
+    pub best : l .answer .stage ≢ 2 → Best g (bound ++ named done) start end (standingIn l)
+    pub litres-are : l .answer .stage ≢ 2 → l .answer .litres ≡ weightOf g (standingIn l)
     pub short : l .answer .length ≤ longest
-    pub nothing : (l .answer .stage ≡ 2) ↔ None (graph b) (bound ++ named done) start end
+    pub nothing : (l .answer .stage ≡ 2) ↔ None g (bound ++ named done) start end
     pub nothing-stands : l .answer .stage ≡ 2 → (l .answer .length ≡ 0) × (l .answer .litres ≡ 0)
     pub passed-stage : (l .answer .stage ≡ 1) ↔ (passes done ≡ 1)
     -- One more report is refused only for what its lab does: 11, 12, 13.
     pub refusals : (ρ : Report) (x : Refusal) (r : Record) → answerOn s l ρ ≡ Reported.Refused x r → List·Memᴰ (numberOf x .number) (11 ∷ 12 ∷ 13 ∷ [])
 
   -- Demand 3, sentence by sentence, where the lab is true to R.
-  pub record LabOutcome (R : List (List ℕ)) (first : Leaves Record) (ρs done : List Report) (l : Leaves Record) : Type 0 where
+  pub record LabOutcome (R : List (List ℕ)) (ρs done : List Report) (l : Leaves Record) : Type 0 where
     -- 'Record and areas are as 01's rules for trials give them.'
-    pub rules : AsRuled first ρs done l
+    pub rules : AsRuled ρs done l
     -- 'The record's failed count is the number of failed reports that were accepted, and at most the number of the lab's runs that the
     -- binding sheets lack.' (01: trials are failed plus passed; so they are all accepted reports, and at most one more.)
     pub failed-counted : l .answer .failed ≡ failures done
@@ -103,163 +108,169 @@ module _ (s : List ℕ) (b : Book) (flags start end : ℕ) (paths walk : List �
     -- 'A passed line-up avoids the binding sheets' runs and all the lab's runs, and every other line-up from start to end that avoids them
     -- loses at least as many litres.' (It is the best of them: ties fall as in planning.)
     pub passed-avoids : l .answer .stage ≡ 1 → Free b flags R start end (standingIn l)
-    pub passed-litres : l .answer .stage ≡ 1 → l .answer .litres ≡ weightOf (graph b) (standingIn l)
-    pub passed-least : l .answer .stage ≡ 1 → (v : List ℕ) → Free b flags R start end v → l .answer .litres ≤ weightOf (graph b) v
-    pub passed-best : l .answer .stage ≡ 1 → (v : List ℕ) → Free b flags R start end v → standingIn l ≼⟨ graph b ⟩ v
+    pub passed-litres : l .answer .stage ≡ 1 → l .answer .litres ≡ weightOf g (standingIn l)
+    pub passed-least : l .answer .stage ≡ 1 → (v : List ℕ) → Free b flags R start end v → l .answer .litres ≤ weightOf g v
+    pub passed-best : l .answer .stage ≡ 1 → (v : List ℕ) → Free b flags R start end v → standingIn l ≼⟨ g ⟩ v
     -- 'Trials that are over end in a passed line-up or in none, and in none exactly when no line-up from start to end avoids those runs.'
     pub over : l .answer .stage ≢ 0 → (l .answer .stage ≡ 1) ⊎ (l .answer .stage ≡ 2)
     pub none-exactly : l .answer .stage ≢ 0 → (l .answer .stage ≡ 2) ↔ ((w : List ℕ) → Free b flags R start end w → ⊥)
 
   -- The same of `series::replay`, which begins and makes the reports of a list of bytes: it answers the record r, and `paths′` and `walk′` are
   -- the bytes at exit. They are what the single calls leave.
-  pub record ReplayOutcome (R : List (List ℕ)) (first : Leaves Record) (reports : List ℕ) (r : Record) (paths′ walk′ : List ℕ) : Type 0 where
+  pub record ReplayOutcome (R : List (List ℕ)) (reports : List ℕ) (r : Record) (paths′ walk′ : List ℕ) : Type 0 where
     pub replayed : replaying s flags start end reports paths walk ≡ answering (Begun.Record r) paths′ walk′
-    pub as-made : answering r paths′ walk′ ≡ reportsOn s first (reportsOf reports)
-    pub outcome : LabOutcome R first (reportsOf reports) (acceptedOn s first (reportsOf reports)) (answering r paths′ walk′)
+    pub as-made : answering r paths′ walk′ ≡ reportsOn s (opening β) (reportsOf reports)
+    pub outcome : LabOutcome R (reportsOf reports) (acceptedOn s (opening β) (reportsOf reports)) (answering r paths′ walk′)
+
+-- 'Take an accepted begin and every list of reports after it, passed or failed, refused ones included, from a lab that passes just the line-ups
+-- free of its runs. Whichever forbidden run of the tried line-up the lab names each time, if all runs together are at most 256, all of this
+-- holds after the list.'
+pub record Demand3 : Type 0 where
+  pub after-calls : (β : AcceptedBegin) (R : List (List ℕ)) → LabSet (β .book) (β .flags) R → (ρs : List Report) → TrueLab R (β .bytes) (opening β) ρs
+      → LabOutcome β R ρs (acceptedOn (β .bytes) (opening β) ρs) (reportsOn (β .bytes) (opening β) ρs)
+  -- ... and after `series::replay`, of what it answers and leaves by its contract.
+  pub after-replay : (β : AcceptedBegin) (R : List (List ℕ)) → LabSet (β .book) (β .flags) R → (reports : List ℕ)
+      → TrueLab R (β .bytes) (opening β) (reportsOf reports)
+      → (a : Begun) (paths′ walk′ : List ℕ)
+      → answering a paths′ walk′ ≡ replaying (β .bytes) (β .flags) (β .start) (β .end) reports (β .paths) (β .walk)
+      → (r : Record) × (a ≡ Begun.Record r) × ReplayOutcome β R reports r paths′ walk′
+  -- 01, 'Trials': record and areas are as the rules give them after every list, whatever the lab is.
+  pub after-any : (β : AcceptedBegin) (ρs : List Report) → AsRuled β ρs (acceptedOn (β .bytes) (opening β) ρs) (reportsOn (β .bytes) (opening β) ρs)
 
 -- ---- proof
-module _ (s : List ℕ) (b : Book) (read : reading s ≡ accepted b) (flags start end : ℕ) (paths walk : List ℕ) where
-  -- Of the trials that the rules' begin opens.
-  module _ (ok : beginRefusal (graph b) start end paths walk ≡ none) where
-    abbrev t : Begin
-    t = opened s b read flags start end paths walk ok
+module _ (β : AcceptedBegin) where
+  open AcceptedBegin β using (bytes as s, book as b, read, flags, start, end, paths, walk, rec, answered)
 
-    abbrev lent : Leaves Record
-    lent = leavesOf (begun t)
+  well : WellFormed b
+  well = reading-is-book s b read .well-formed
 
-    in-order : (done : List Report) × Invariant t done (begun t)
-    in-order = ([], invariant-begin t)
+  allowed : beginRefusal (graph b) start end paths walk ≡ none
+  allowed = begin-ok s b read flags start end paths walk rec answered
 
-    ruled-here : (ρs : List Report) → AsRuled s b flags start end paths walk lent ρs (acceptedOf t ρs) (leavesOf (stateAfter t ρs))
-    ruled-here ρs =
-        let g = graph b in
-        let c = claim t ρs in
-        let σ = stateAfter t ρs in
-        let leave = reports-leave s b read flags start end paths walk ok in
-        let v = c .valid in
+  -- the trials of the theory
+  abbrev t : Begin
+  t = opened s b read flags start end paths walk allowed
+
+  opening-is : opening β ≡ leavesOf (begun t)
+  opening-is =
+      let left = begin-leaves s b read flags start end paths walk allowed in
+      ap₂ (λ (m : Leaves Begun) r. answering r (m .paths) (m .walk)) left (recorded (sym answered ∙ ap (λ (m : Leaves Begun). m .answer) left))
+    where
+      recorded : {p q : Record} → Begun.Record p ≡ Begun.Record q → p ≡ q
+      recorded e = cc
+
+  in-order : (done : List Report) × Invariant t done (begun t)
+  in-order = ([], invariant-begin t)
+
+  ruled-here : (ρs : List Report) → AsRuled β ρs (acceptedOf t ρs) (leavesOf (stateAfter t ρs))
+  ruled-here ρs =
+      let c = claim t ρs in
+      let v = c .valid in
+      let σ = stateAfter t ρs in
+      let leave : (τs : List Report) → leavesOf (stateAfter t τs) ≡ reportsOn s (opening β) τs =
+      λ τs. sym (ap (λ l. reportsOn s l τs) opening-is ∙ reports-leave s b read flags start end paths walk allowed τs) in
+      record {
+        left = leave ρs;
+        answered = sym (ap (λ l. acceptedOn s l ρs) opening-is ∙ accepted-are s b read flags start end paths walk allowed (begun t) in-order ρs);
+        ruled = refl;
+        accepted-ruled = refl;
+        refused-kept = refused-kept s;
+        as-if-not-made = ap leavesOf (sym (refused-as-if-not-made (graph b) (chosen (graph b)) (begun t) ρs)) ∙ leave (acceptedOf t ρs);
+        start-is = c .start;
+        end-is = c .end;
+        first-is = c .first;
+        known-is = c .known;
+        failed-is = c .failed-count;
+        passed-is = c .passed-count;
+        trials-are = c .trials-count;
+        known-set = subst (ForbiddenSet (b .count)) (c .forbidden) (v .set);
+        path-bytes = c .path-bytes;
+        path-length = c .path-length;
+        walk-bytes = c .area-bytes;
+        walk-length = c .area-length;
+        stage-is = v .stage;
+        best = λ ne. subst (λ F. Best (graph b) F start end (standingIn (leavesOf σ))) (c .forbidden) (c .best ne);
+        litres-are = v .litres;
+        short = v .short;
+        nothing = subst (λ F. (σ .rec .stage ≡ 2) ↔ None (graph b) F start end) (c .forbidden) (c .nothing);
+        nothing-stands = v .no-walk;
+        passed-stage = c .passed-stage;
+        refusals = λ ρ. only-three s b read σ v ρ (c .refusals ρ);
+      }
+
+  pub ruled : (ρs : List Report) → AsRuled β ρs (acceptedOn s (opening β) ρs) (reportsOn s (opening β) ρs)
+  ruled ρs =
+      let h = ruled-here ρs in
+      subst₂ (AsRuled β ρs) (h .answered) (h .left) h
+
+  module _ (R : List (List ℕ)) (set : LabSet b flags R) where
+    oracle-set : OracleSet t R
+    oracle-set =
         record {
-          left = sym (leave ρs);
-          answered = sym (accepted-are s b read flags start end paths walk ok (begun t) in-order ρs);
-          ruled = refl;
-          accepted-ruled = refl;
-          refused-kept = refused-kept s;
-          as-if-not-made = ap leavesOf (sym (refused-as-if-not-made g (chosen g) (begun t) ρs)) ∙ sym (leave (acceptedOf t ρs));
-          start-is = c .start;
-          end-is = c .end;
-          first-is = c .first;
-          known-is = c .known;
-          failed-is = c .failed-count;
-          passed-is = c .passed-count;
-          trials-are = c .trials-count;
-          known-set = subst (ForbiddenSet (b .count)) (c .forbidden) (v .set);
-          path-bytes = c .path-bytes;
-          path-length = c .path-length;
-          walk-bytes = c .area-bytes;
-          walk-length = c .area-length;
-          stage-is = v .stage;
-          best = λ ne. subst (λ F. Best g F start end (standingIn (leavesOf σ))) (c .forbidden) (c .best ne);
-          litres-are = v .litres;
-          short = v .short;
-          nothing = subst (λ F. (σ .rec .stage ≡ 2) ↔ None g F start end) (c .forbidden) (c .nothing);
-          nothing-stands = v .no-walk;
-          passed-stage = c .passed-stage;
-          refusals = λ ρ. only-three s b read σ v ρ (c .refusals ρ);
+          taken = λ r m. true→T _ (IsPath→isPath (b .count) r (set .paths r m));
+          few = omega (arith, set .few, how-many-once (set .counted) (many-of-either b well flags R));
         }
 
-    module _ (R : List (List ℕ)) (set : LabSet b flags R) where
-      well : WellFormed b
-      well = reading-is-book s b read .well-formed
-
-      oracle-set : OracleSet t R
-      oracle-set =
-          record {
-            taken = λ r m. true→T _ (IsPath→isPath (b .count) r (set .paths r m));
-            few = omega (arith, set .few, how-many-once (set .counted) (many-of-either b well flags R));
-          }
-
-      lab-here : (ρs : List Report) → TrueLab R s lent ρs → LabOutcome s b flags start end paths walk R lent ρs (acceptedOf t ρs) (leavesOf (stateAfter t ρs))
-      lab-here ρs honest =
-          let g = graph b in
-          let σ = stateAfter t ρs in
-          let o = oracle t R oracle-set ρs (true-lab s b read flags start end paths walk ok R (begun t) in-order ρs honest) in
-          let rules = ruled-here ρs in
-          record {
-            rules = rules;
-            failed-counted = rules .failed-is;
-            passed-counted = rules .passed-is;
-            trials-counted = rules .trials-are;
-            lacked = length (lacking (known flags (b .sets)) R);
-            lacked-are = many-labs-only b well flags R;
-            failed-bounded = o .failed-bounded;
-            trials-bounded = o .trials-bounded;
-            true-accepted = λ e ρ q. (step g (chosen g) σ ρ .rec, answer-is s b read σ (o .rules .valid) ρ none (o .true-accepted e ρ (true-report R σ ρ q)));
-            passed-avoids = λ e. feasible→free (o .passed-avoids e);
-            passed-litres = o .passed-litres;
-            passed-least = λ e v f. o .passed-least e v (free→feasible f);
-            passed-best = λ e v f. o .passed-best e .least v (free→feasible f);
-            over = o .over;
-            none-exactly =
-                λ ne. (λ e w f. o .none-exactly ne .0 e w (free→feasible f), λ n. o .none-exactly ne .1 (λ w f. n w (feasible→free f)));
-          }
-
-  -- Where `series::replay` answers a record, begin was accepted.
-  pub replay-begun : (reports : List ℕ) (q : Record) → replaying s flags start end reports paths walk .answer ≡ Begun.Record q
-      → (r : Record) × (beginning s flags start end paths walk .answer ≡ Begun.Record r)
-  replay-begun reports q e =
-      let ok = replay-ok s b read flags start end paths walk reports q e in
-      (lent ok .answer, ap (λ (m : Leaves Begun). m .answer) (begin-leaves s b read flags start end paths walk ok))
-
-  -- Of an accepted begin, by its answer.
-  module _ (r : Record) (begun-r : beginning s flags start end paths walk .answer ≡ Begun.Record r) where
-    abbrev pub first : Leaves Record
-    first = opening (beginning s flags start end paths walk) r
-
-    allowed : beginRefusal (graph b) start end paths walk ≡ none
-    allowed = begin-ok s b read flags start end paths walk r begun-r
-
-    first-left : lent allowed ≡ first
-    first-left =
-        let left = begin-leaves s b read flags start end paths walk allowed in
-        let same : begun (t allowed) .rec ≡ r = recorded (sym (ap (λ (m : Leaves Begun). m .answer) left) ∙ begun-r) in
-        ap₂ opening (sym left) same
+    pub labs : (ρs : List Report) → TrueLab R s (opening β) ρs → LabOutcome β R ρs (acceptedOn s (opening β) ρs) (reportsOn s (opening β) ρs)
+    labs ρs honest = subst₂ (LabOutcome β R ρs) (rules .answered) (rules .left) here
       where
-        recorded : {p q : Record} → Begun.Record p ≡ Begun.Record q → p ≡ q
-        recorded e = cc
+        rules : AsRuled β ρs (acceptedOf t ρs) (leavesOf (stateAfter t ρs))
+        rules = ruled-here ρs
 
-    -- 01, 'Trials': every list of reports, refused ones included.
-    pub ruled : (ρs : List Report) → AsRuled s b flags start end paths walk first ρs (acceptedOn s first ρs) (reportsOn s first ρs)
-    ruled ρs =
-        let h = ruled-here allowed ρs in
-        subst (λ f. AsRuled s b flags start end paths walk f ρs (acceptedOn s f ρs) (reportsOn s f ρs)) first-left
-        (subst₂ (AsRuled s b flags start end paths walk (lent allowed) ρs) (h .answered) (h .left) h)
-
-    -- Demand 3: every set R, and every list of reports from a lab that is true to R.
-    module _ (R : List (List ℕ)) (set : LabSet b flags R) where
-      pub labs : (ρs : List Report) → TrueLab R s first ρs → LabOutcome s b flags start end paths walk R first ρs (acceptedOn s first ρs) (reportsOn s first ρs)
-      labs ρs honest =
-          let h = lab-here allowed R set ρs (subst (λ f. TrueLab R s f ρs) (sym first-left) honest) in
-          subst (λ f. LabOutcome s b flags start end paths walk R f ρs (acceptedOn s f ρs) (reportsOn s f ρs)) first-left
-          (subst₂ (LabOutcome s b flags start end paths walk R (lent allowed) ρs) (h .rules .answered) (h .rules .left) h)
-
-      -- The same of what `series::replay` answers and leaves, as its contract gives it.
-      pub replay-labs : (reports : List ℕ) → TrueLab R s first (reportsOf reports) → (a : Begun) (paths′ walk′ : List ℕ)
-          → answering a paths′ walk′ ≡ replaying s flags start end reports paths walk
-          → (q : Record) × (a ≡ Begun.Record q) × ReplayOutcome s b flags start end paths walk R first reports q paths′ walk′
-      replay-labs reports honest a paths′ walk′ e =
-          let o = labs (reportsOf reports) honest in
-          let l = reportsOn s first (reportsOf reports) in
-          let same : answering a paths′ walk′ ≡ begunWith l =
-          e ∙ replay-leaves s b read flags start end paths walk allowed reports ∙ sym (ap begunWith (o .rules .ruled)) in
-          let is : a ≡ Begun.Record (l .answer) = ap (λ (m : Leaves Begun). m .answer) same in
-          let made : answering (l .answer) paths′ walk′ ≡ l = ap (λ (m : Leaves Begun). answering (l .answer) (m .paths) (m .walk)) same in (
-            l .answer,
-            is,
+        here : LabOutcome β R ρs (acceptedOf t ρs) (leavesOf (stateAfter t ρs))
+        here =
+            let σ = stateAfter t ρs in
+            let true-reports = true-lab s b read flags start end paths walk allowed R (begun t) in-order ρs (subst (λ l. TrueLab R s l ρs) opening-is honest) in
+            let o = oracle t R oracle-set ρs true-reports in
             record {
-              replayed = sym e ∙ ap (λ x. answering x paths′ walk′) is;
-              as-made = made;
-              outcome = subst (LabOutcome s b flags start end paths walk R first (reportsOf reports) (acceptedOn s first (reportsOf reports))) (sym made) o;
-            },
-          )
-        where
-          begunWith : Leaves Record → Leaves Begun
-          begunWith m = answering (Begun.Record (m .answer)) (m .paths) (m .walk)
+              rules = rules;
+              failed-counted = rules .failed-is;
+              passed-counted = rules .passed-is;
+              trials-counted = rules .trials-are;
+              lacked = length (lacking (known flags (b .sets)) R);
+              lacked-are = many-labs-only b well flags R;
+              failed-bounded = o .failed-bounded;
+              trials-bounded = o .trials-bounded;
+              true-accepted =
+                  λ e ρ q. (step (graph b) (chosen (graph b)) σ ρ .rec, answer-is s b read σ (o .rules .valid) ρ none (o .true-accepted e ρ (true-report R σ ρ q)));
+              passed-avoids = λ e. feasible→free (o .passed-avoids e);
+              passed-litres = o .passed-litres;
+              passed-least = λ e v f. o .passed-least e v (free→feasible f);
+              passed-best = λ e v f. o .passed-best e .least v (free→feasible f);
+              over = o .over;
+              none-exactly =
+                  λ ne. (λ e w f. o .none-exactly ne .0 e w (free→feasible f), λ n. o .none-exactly ne .1 (λ w f. n w (feasible→free f)));
+            }
+
+    pub replay-labs : (reports : List ℕ) → TrueLab R s (opening β) (reportsOf reports) → (a : Begun) (paths′ walk′ : List ℕ)
+        → answering a paths′ walk′ ≡ replaying s flags start end reports paths walk
+        → (r : Record) × (a ≡ Begun.Record r) × ReplayOutcome β R reports r paths′ walk′
+    replay-labs reports honest a paths′ walk′ e =
+        let o = labs (reportsOf reports) honest in
+        let l = reportsOn s (opening β) (reportsOf reports) in
+        let same : answering a paths′ walk′ ≡ begunWith l =
+        e ∙ replay-leaves s b read flags start end paths walk allowed reports ∙ sym (ap begunWith (o .rules .ruled)) in
+        let is : a ≡ Begun.Record (l .answer) = ap (λ (m : Leaves Begun). m .answer) same in
+        let made : answering (l .answer) paths′ walk′ ≡ l = ap (λ (m : Leaves Begun). answering (l .answer) (m .paths) (m .walk)) same in (
+          l .answer,
+          is,
+          record {
+            replayed = sym e ∙ ap (λ x. answering x paths′ walk′) is;
+            as-made = made;
+            outcome = subst (LabOutcome β R (reportsOf reports) (acceptedOn s (opening β) (reportsOf reports))) (sym made) o;
+          },
+        )
+      where
+        begunWith : Leaves Record → Leaves Begun
+        begunWith m = answering (Begun.Record (m .answer)) (m .paths) (m .walk)
+
+pub demand-3 : Demand3
+demand-3 = record { after-calls = labs; after-replay = replay-labs; after-any = ruled }
+
+-- Where `series::replay` answers a record, begin was accepted.
+pub replay-begun : (s : List ℕ) (b : Book) → reading s ≡ accepted b → (flags start end : ℕ) (reports paths walk : List ℕ) (q : Record)
+    → replaying s flags start end reports paths walk .answer ≡ Begun.Record q
+    → (r : Record) × (beginning s flags start end paths walk .answer ≡ Begun.Record r)
+replay-begun s b read flags start end reports paths walk q e =
+    let ok = replay-ok s b read flags start end paths walk reports q e in
+    (firstState b flags start end paths walk .rec, ap (λ (m : Leaves Begun). m .answer) (begin-leaves s b read flags start end paths walk ok))

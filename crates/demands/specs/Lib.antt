@@ -1,4 +1,4 @@
--- Demand 3: Calls is meaning, Labs what is claimed and its proof, Witnesses that its premises can be met; CallLaws are laws.
+-- Demand 3. Meaning: Calls, and the first part of Labs (what is claimed). Laws: CallLaws, the rest of Labs; Witnesses are labs on book A.
 pub mod Calls
 pub mod CallLaws
 pub mod Labs

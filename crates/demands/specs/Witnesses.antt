@@ -1,81 +1,101 @@
--- The premises of demand 3 can be met: on book A, under marks 3, from 0 to 3, a lab whose trials end in a passed line-up, and one whose trials
--- end in none. Both also make reports that are refused, which are not true. For all lent areas that are long enough.
+-- The premises of demand 3 can be met: on book A, under marks 3, from 0 to 3, for all lent areas that are long enough, by a lab whose trials end
+-- in a passed line-up and by one whose trials end in none. Each of them also makes a report that is refused.
 use Prim.Native.Nat.{ℕ, _≤_}
-use mathlib.Core.Path.{_≡_, refl, sym, ap, ap₂, subst, subst₂, _∙_}
+use mathlib.Core.Path.{_≡_, refl, sym, ap, ap₂, subst, _∙_}
 use mathlib.Core.List.{List, [], _∷_, List·Memᴰ·head, List·Memᴰ·tail}
-use mathlib.Core.Option.{Option, none, some}
+use mathlib.Core.Option.{none, some}
 use native.Mathlib.Omega.{arith}
 use lib.Dec.{T}
 use lib.ListN.{length}
 use Rattle.lists.specs.Test.{T→true}
-use Rattle.walks.specs.Avoid.{occurs→Occurs, avoids→Avoids}
+use Rattle.walks.specs.Avoid.{Occurs, occurs→Occurs, avoids→Avoids}
 use Rattle.walks.specs.Feasible.{isFeasible}
 use Rattle.limits.specs.Limits.{areaSize, longest}
 use Rattle.book.specs.declared.Refusal.{Refusal}
 use Rattle.book.specs.declared.Refusal.the-variants.{Ended, NotStanding}
 use Rattle.book.specs.Book.{isPath, simple, names}
 use Rattle.book.specs.BookLaws.{isPath→IsPath}
-use Rattle.book.specs.Reading.{accepted, reading}
 use Rattle.rules.specs.Binding.{covers, applied, once, known}
 use Rattle.trial_record.specs.declared.Record.{Record}
-use Rattle.trial_rules.specs.Trials.{Report, passed, failed, State, pathArea, Valid, isValid, isRecord, isForbiddenSet, refusal, unless, step}
+use Rattle.trial_rules.specs.Trials.{Report, passed, failed, State, pathArea, Valid, isValid, isRecord, isForbiddenSet, step}
 use Rattle.trial_rules.specs.Tests.{isForbiddenSet→, isValid→Valid}
 use Rattle.trial_rules.specs.Accepted.{only-oracle}
 use Rattle.trial_rules.specs.Lacking.{lacking, together}
 use Rattle.trials.specs.declared.Begun.{Begun}
 use Rattle.trials.specs.declared.Reported.{Reported}
-use Rattle.trials.specs.Operations.{Leaves, answering, beginning, reporting, recordIn}
-use Rattle.series.specs.Whole.{leavesOf, reportOn, reportsOn, report-leaves}
+use Rattle.trials.specs.Operations.{Leaves, answering, reporting, recordIn}
+use Rattle.series.specs.Whole.{leavesOf, reportOn, reportsOn}
 use Rattle.examples.specs.Books.{bytesA, bookA, book-A}
-use Rattle.examples.specs.Sums.{ForLent, graphA, planA, well-A, begun-3, after-123, after-13, long-after, valid-3, sums}
+use Rattle.examples.specs.Sums.{graphA, planA, well-A, begun-3, after-123, after-13, long-after, valid-3, sums}
 use Rattle.examples.specs.Trials.{not-there, too-late}
-use Rattle.demands.specs.Calls.{opening, answerOn, answersOn, acceptedBy, acceptedOn, standingIn, TrueReport, TrueLab, LabSet}
+use Rattle.demands.specs.Calls.{AcceptedBegin, opening, answerOn, answersOn, acceptedBy, acceptedOn, standingIn, TrueReport, TrueLab, LabSet}
 use Rattle.demands.specs.CallLaws.{many-of-either, refused-kept, report-is, answer-is}
 use Rattle.demands.specs.Labs.{LabOutcome, labs}
 
--- A lab that is true to R makes the reports ρs on l; `done` are accepted, and l′ is left.
-pub record Goes (R : List (List ℕ)) (s : List ℕ) (l : Leaves Record) (ρs done : List Report) (l′ : Leaves Record) : Type 0 where
-  pub honest : TrueLab R s l ρs
-  pub answered : acceptedOn s l ρs ≡ done
-  pub left : reportsOn s l ρs ≡ l′
+-- The runs that are named.
+abbrev pub path-123 : List ℕ
+path-123 = 1 ∷ 2 ∷ 3 ∷ []
+
+abbrev pub path-13 : List ℕ
+path-13 = 1 ∷ 3 ∷ []
 
 -- The record of begin under marks 3: 0 1 2 1 2 3, 450.
 abbrev pub record-3 : Record
 record-3 = record { stage = 0; start = 0; end = 3; known = 2; first = 2; failed = 0; passed = 0; litres = 450; length = 6 }
 
--- On book A: begin is accepted, R is a lab's set, and the lab makes the reports ρs, of which `done` are accepted; in the end the record q
--- is left, and w stands.
-pub record Trial (R : List (List ℕ)) (ρs done : List Report) (q : Record) (w : List ℕ) (paths walk : List ℕ) : Type 0 where
-  pub begun : beginning bytesA 3 0 3 paths walk .answer ≡ Begun.Record record-3
-  pub set : LabSet bookA 3 R
-  pub after : Leaves Record
-  pub goes : Goes R bytesA (opening (beginning bytesA 3 0 3 paths walk) record-3) ρs done after
-  pub ends : after .answer ≡ q
-  pub stands : standingIn after ≡ w
+abbrev pub begin-A : (paths walk : List ℕ) → areaSize ≤ length paths → longest ≤ length walk → AcceptedBegin
+begin-A paths walk fits long =
+    record {
+      bytes = bytesA;
+      book = bookA;
+      read = book-A;
+      flags = 3;
+      start = 0;
+      end = 3;
+      paths = paths;
+      walk = walk;
+      rec = record-3;
+      answered = ap (λ (m : Leaves Begun). m .answer) (sums .from-marks-3 paths walk fits long);
+    }
+
+abbrev pub OnBookA : (AcceptedBegin → Type 0) → Type 0
+OnBookA P = (paths walk : List ℕ) (fits : areaSize ≤ length paths) (long : longest ≤ length walk) → P (begin-A paths walk fits long)
+
+-- A lab is true to its set R. Of its reports ρs `done` are accepted; at the end the record is q, and w stands.
+pub record Trial (R : List (List ℕ)) (ρs done : List Report) (q : Record) (w : List ℕ) (β : AcceptedBegin) : Type 0 where
+  pub set : LabSet (β .book) (β .flags) R
+  pub honest : TrueLab R (β .bytes) (opening β) ρs
+  pub answered : acceptedOn (β .bytes) (opening β) ρs ≡ done
+  pub ends : reportsOn (β .bytes) (opening β) ρs .answer ≡ q
+  pub stands : standingIn (reportsOn (β .bytes) (opening β) ρs) ≡ w
 
 pub record Witnesses : Type 0 where
   -- The lab's run is 1 2 3. It names 1 3, which does not stand (refused); then 1 2 3; then it passes 0 1 3, 500 litres.
-  pub ends-passed : ForLent
-      (Trial ((1 ∷ 2 ∷ 3 ∷ []) ∷ []) (failed (1 ∷ 3 ∷ []) ∷ failed (1 ∷ 2 ∷ 3 ∷ []) ∷ passed ∷ []) (failed (1 ∷ 2 ∷ 3 ∷ []) ∷ passed ∷ [])
+  pub ends-passed : OnBookA
+      (Trial (path-123 ∷ []) (failed path-13 ∷ failed path-123 ∷ passed ∷ []) (failed path-123 ∷ passed ∷ [])
       (record { stage = 1; start = 0; end = 3; known = 3; first = 2; failed = 1; passed = 1; litres = 500; length = 3 })
       (0 ∷ 1 ∷ 3 ∷ []))
   -- The lab's runs are 1 2 3 and 1 3. It names one, then the other: none is left. A passed report comes too late (refused).
-  pub ends-none : ForLent
-      (Trial ((1 ∷ 2 ∷ 3 ∷ []) ∷ (1 ∷ 3 ∷ []) ∷ []) (failed (1 ∷ 2 ∷ 3 ∷ []) ∷ failed (1 ∷ 3 ∷ []) ∷ passed ∷ []) (failed (1 ∷ 2 ∷ 3 ∷ []) ∷ failed (1 ∷ 3 ∷ []) ∷ [])
+  pub ends-none : OnBookA
+      (Trial (path-123 ∷ path-13 ∷ []) (failed path-123 ∷ failed path-13 ∷ passed ∷ []) (failed path-123 ∷ failed path-13 ∷ [])
       (record { stage = 2; start = 0; end = 3; known = 4; first = 2; failed = 2; passed = 0; litres = 0; length = 0 })
       [])
   -- A lab that passes the first line-up, 0 1 2 1 2 3, is not true to 1 2 3.
-  pub not-true : ForLent (λ paths walk. TrueLab ((1 ∷ 2 ∷ 3 ∷ []) ∷ []) bytesA (opening (beginning bytesA 3 0 3 paths walk) record-3) (passed ∷ []) → ⊥)
+  pub not-true : OnBookA (λ β. TrueLab (path-123 ∷ []) (β .bytes) (opening β) (passed ∷ []) → ⊥)
 
--- Demand 3 speaks of each of them.
-pub spoken-of : {R : List (List ℕ)} {ρs done : List Report} {q : Record} {w paths walk : List ℕ} → (x : Trial R ρs done q w paths walk)
-    → LabOutcome bytesA bookA 3 0 3 paths walk R (opening (beginning bytesA 3 0 3 paths walk) record-3) ρs done (x .after)
-spoken-of {R} {ρs} {paths = paths} {walk = walk} x =
-    let first = opening (beginning bytesA 3 0 3 paths walk) record-3 in
-    subst₂ (LabOutcome bytesA bookA 3 0 3 paths walk R first ρs) (x .goes .answered) (x .goes .left)
-    (labs bytesA bookA book-A 3 0 3 paths walk record-3 (x .begun) R (x .set) ρs (x .goes .honest))
+-- Demand 3 speaks of each lab's trials.
+pub spoken-of : {R : List (List ℕ)} {ρs done : List Report} {q : Record} {w : List ℕ} {β : AcceptedBegin} → Trial R ρs done q w β
+    → LabOutcome β R ρs done (reportsOn (β .bytes) (opening β) ρs)
+spoken-of {R} {ρs} {β = β} x =
+    subst (λ d. LabOutcome β R ρs d (reportsOn (β .bytes) (opening β) ρs)) (x .answered) (labs β R (x .set) ρs (x .honest))
 
 -- ---- lists of reports, one by one
+-- The reports ρs of a lab that is true to R are made on l; `done` are accepted, and l′ is left.
+record Goes (R : List (List ℕ)) (s : List ℕ) (l : Leaves Record) (ρs done : List Report) (l′ : Leaves Record) : Type 0 where
+  honest : TrueLab R s l ρs
+  answered : acceptedOn s l ρs ≡ done
+  left : reportsOn s l ρs ≡ l′
+
 abbrev next : Leaves Reported → Leaves Record
 next m = answering (recordIn (m .answer)) (m .paths) (m .walk)
 
@@ -109,6 +129,9 @@ unfolding TrueLab answersOn acceptedBy reportsOn
 goes-nowhere = record { honest = tt; answered = refl; left = refl }
 
 -- ---- book A
+stands-123 : Occurs path-123 (0 ∷ 1 ∷ 2 ∷ 1 ∷ 2 ∷ 3 ∷ [])
+stands-123 = occurs→Occurs path-123 (0 ∷ 1 ∷ 2 ∷ 1 ∷ 2 ∷ 3 ∷ []) tt
+
 labs-set : (R : List (List ℕ)) → T (isForbiddenSet 4 R) → length (together (known 3 (bookA .sets)) R) ≤ 256 → LabSet bookA 3 R
 labs-set R paths few =
     record {
@@ -146,48 +169,47 @@ module _ (paths walk : List ℕ) (fits : areaSize ≤ length paths) (long : long
   passes-13 : reporting bytesA (σ₁ .rec) (pathArea σ₁) (σ₁ .area) passed ≡ answering (Reported.Accepted (passed-13 .rec)) (pathArea passed-13) (passed-13 .area)
   passes-13 = report-is bytesA bookA book-A σ₁ valid-123 passed none (only-oracle graphA σ₁ passed long-123 valid-123)
 
-  passing : Goes ((1 ∷ 2 ∷ 3 ∷ []) ∷ []) bytesA (leavesOf σ₀) (failed (1 ∷ 3 ∷ []) ∷ failed (1 ∷ 2 ∷ 3 ∷ []) ∷ passed ∷ []) (failed (1 ∷ 2 ∷ 3 ∷ []) ∷ passed ∷ []) (leavesOf passed-13)
+  passing : Goes (path-123 ∷ []) bytesA (leavesOf σ₀) (failed path-13 ∷ failed path-123 ∷ passed ∷ []) (failed path-123 ∷ passed ∷ []) (leavesOf passed-13)
   passing =
-      goes-refused (failed (1 ∷ 3 ∷ [])) NotStanding (σ₀ .rec)
-      (answer-is bytesA bookA book-A σ₀ (valid-3 paths walk fits long) (failed (1 ∷ 3 ∷ [])) (some NotStanding) (not-there paths walk fits long))
-      (goes-on (failed (1 ∷ 2 ∷ 3 ∷ [])) (sums .named-123 paths walk fits long) (List·Memᴰ·head refl, occurs→Occurs (1 ∷ 2 ∷ 3 ∷ []) (0 ∷ 1 ∷ 2 ∷ 1 ∷ 2 ∷ 3 ∷ []) tt)
-      (goes-on passed passes-13 (avoids→Avoids ((1 ∷ 2 ∷ 3 ∷ []) ∷ []) (0 ∷ 1 ∷ 3 ∷ []) tt) goes-nowhere))
+      goes-refused (failed path-13) NotStanding (σ₀ .rec)
+      (answer-is bytesA bookA book-A σ₀ (valid-3 paths walk fits long) (failed path-13) (some NotStanding) (not-there paths walk fits long))
+      (goes-on (failed path-123) (sums .named-123 paths walk fits long) (List·Memᴰ·head refl, stands-123)
+      (goes-on passed passes-13 (avoids→Avoids (path-123 ∷ []) (0 ∷ 1 ∷ 3 ∷ []) tt) goes-nowhere))
 
-  failing : Goes ((1 ∷ 2 ∷ 3 ∷ []) ∷ (1 ∷ 3 ∷ []) ∷ []) bytesA (leavesOf σ₀) (failed (1 ∷ 2 ∷ 3 ∷ []) ∷ failed (1 ∷ 3 ∷ []) ∷ passed ∷ []) (failed (1 ∷ 2 ∷ 3 ∷ []) ∷ failed (1 ∷ 3 ∷ []) ∷ []) (leavesOf σ₂)
+  failing : Goes (path-123 ∷ path-13 ∷ []) bytesA (leavesOf σ₀) (failed path-123 ∷ failed path-13 ∷ passed ∷ []) (failed path-123 ∷ failed path-13 ∷ []) (leavesOf σ₂)
   failing =
-      goes-on (failed (1 ∷ 2 ∷ 3 ∷ [])) (sums .named-123 paths walk fits long) (List·Memᴰ·head refl, occurs→Occurs (1 ∷ 2 ∷ 3 ∷ []) (0 ∷ 1 ∷ 2 ∷ 1 ∷ 2 ∷ 3 ∷ []) tt)
-      (goes-on (failed (1 ∷ 3 ∷ [])) (sums .then-named-13 paths walk fits long) (List·Memᴰ·tail (List·Memᴰ·head refl), occurs→Occurs (1 ∷ 3 ∷ []) (0 ∷ 1 ∷ 3 ∷ []) tt)
+      goes-on (failed path-123) (sums .named-123 paths walk fits long) (List·Memᴰ·head refl, stands-123)
+      (goes-on (failed path-13) (sums .then-named-13 paths walk fits long) (List·Memᴰ·tail (List·Memᴰ·head refl), occurs→Occurs path-13 (0 ∷ 1 ∷ 3 ∷ []) tt)
       (goes-refused passed Ended (σ₂ .rec) (answer-is bytesA bookA book-A σ₂ valid-13 passed (some Ended) (too-late paths walk fits long)) goes-nowhere))
 
-  first-is : opening (beginning bytesA 3 0 3 paths walk) record-3 ≡ leavesOf σ₀
-  first-is = ap (λ m. opening m record-3) (sums .from-marks-3 paths walk fits long)
+  abbrev β : AcceptedBegin
+  β = begin-A paths walk fits long
 
-  not-true : TrueLab ((1 ∷ 2 ∷ 3 ∷ []) ∷ []) bytesA (opening (beginning bytesA 3 0 3 paths walk) record-3) (passed ∷ []) → ⊥
+  opening-is : opening β ≡ leavesOf σ₀
+  opening-is = ap (λ (m : Leaves Begun). answering record-3 (m .paths) (m .walk)) (sums .from-marks-3 paths walk fits long)
+
+  trial : {R : List (List ℕ)} {ρs done : List Report} {l : Leaves Record} → LabSet bookA 3 R → Goes R bytesA (leavesOf σ₀) ρs done l
+      → Trial R ρs done (l .answer) (standingIn l) β
+  trial {R} {ρs} {done} {l} set h =
+      let g : Goes R bytesA (opening β) ρs done l = subst (λ m. Goes R bytesA m ρs done l) (sym opening-is) h in
+      record { set = set; honest = g .honest; answered = g .answered; ends = ap (λ (m : Leaves Record). m .answer) (g .left); stands = ap standingIn (g .left) }
+
+  not-true : TrueLab (path-123 ∷ []) bytesA (opening β) (passed ∷ []) → ⊥
   unfolding TrueLab
   not-true h =
       let valid = valid-3 paths walk fits long in
       let unrefused = only-oracle graphA σ₀ passed (long-after paths walk fits long (0 ∷ 1 ∷ 2 ∷ 1 ∷ 2 ∷ 3 ∷ []) refl) valid in
-      let h₀ : TrueLab ((1 ∷ 2 ∷ 3 ∷ []) ∷ []) bytesA (leavesOf σ₀) (passed ∷ []) = subst (λ m. TrueLab ((1 ∷ 2 ∷ 3 ∷ []) ∷ []) bytesA m (passed ∷ [])) first-is h in
-      h₀ .0 (step graphA planA σ₀ passed .rec) (answer-is bytesA bookA book-A σ₀ valid passed none unrefused) (1 ∷ 2 ∷ 3 ∷ []) (List·Memᴰ·head refl)
-      (occurs→Occurs (1 ∷ 2 ∷ 3 ∷ []) (0 ∷ 1 ∷ 2 ∷ 1 ∷ 2 ∷ 3 ∷ []) tt)
-
-  begins : {R : List (List ℕ)} {ρs done : List Report} {l : Leaves Record} → LabSet bookA 3 R → Goes R bytesA (leavesOf σ₀) ρs done l
-      → Trial R ρs done (l .answer) (standingIn l) paths walk
-  begins {R} {ρs} {done} {l} set g =
-      record {
-        begun = ap (λ (m : Leaves Begun). m .answer) (sums .from-marks-3 paths walk fits long);
-        set = set;
-        after = l;
-        goes = subst (λ m. Goes R bytesA m ρs done l) (sym first-is) g;
-        ends = refl;
-        stands = refl;
-      }
+      subst (λ m. TrueLab (path-123 ∷ []) bytesA m (passed ∷ [])) opening-is h .0 (step graphA planA σ₀ passed .rec)
+      (answer-is bytesA bookA book-A σ₀ valid passed none unrefused)
+      path-123
+      (List·Memᴰ·head refl)
+      stands-123
 
 pub witnesses : Witnesses
 unfolding covers applied isForbiddenSet once isPath simple names lacking
 witnesses =
     record {
-      ends-passed = λ paths walk fits long. begins paths walk fits long (labs-set ((1 ∷ 2 ∷ 3 ∷ []) ∷ []) tt (omega arith)) (passing paths walk fits long);
-      ends-none = λ paths walk fits long. begins paths walk fits long (labs-set ((1 ∷ 2 ∷ 3 ∷ []) ∷ (1 ∷ 3 ∷ []) ∷ []) tt (omega arith)) (failing paths walk fits long);
+      ends-passed = λ paths walk fits long. trial paths walk fits long (labs-set (path-123 ∷ []) tt (omega arith)) (passing paths walk fits long);
+      ends-none = λ paths walk fits long. trial paths walk fits long (labs-set (path-123 ∷ path-13 ∷ []) tt (omega arith)) (failing paths walk fits long);
       not-true = not-true;
     }
