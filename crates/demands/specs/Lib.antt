@@ -1,5 +1,6 @@
--- Demand 3. Meaning: Calls, and the first part of Labs (what is claimed). Laws: CallLaws, the rest of Labs; Witnesses are labs on book A.
+-- Demand 3. Meaning: Calls (its words) and Labs (what is claimed). Laws: CallLaws, LabLaws (the theorem). Witnesses: labs on book A.
 pub mod Calls
-pub mod CallLaws
 pub mod Labs
+pub mod CallLaws
+pub mod LabLaws
 pub mod Witnesses

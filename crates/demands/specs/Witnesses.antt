@@ -30,7 +30,8 @@ use Rattle.examples.specs.Sums.{graphA, planA, well-A, begun-3, after-123, afte
 use Rattle.examples.specs.Trials.{not-there, too-late}
 use Rattle.demands.specs.Calls.{AcceptedBegin, opening, answerOn, answersOn, acceptedBy, acceptedOn, standingIn, TrueReport, TrueLab, LabSet}
 use Rattle.demands.specs.CallLaws.{many-of-either, refused-kept, report-is, answer-is}
-use Rattle.demands.specs.Labs.{LabOutcome, labs}
+use Rattle.demands.specs.Labs.{LabOutcome}
+use Rattle.demands.specs.LabLaws.{labs}
 
 -- The runs that are named.
 abbrev pub path-123 : List ℕ
