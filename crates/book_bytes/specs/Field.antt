@@ -163,7 +163,7 @@ module _ (t : List ℕ) (bytes : All (λ x. x < 256) t) (held : endAt t 0 ≤ le
       frame-again t bytes held ∙ ap₂ fieldOf (tag-again (getD t 0 0) (lengthAt t 0) fit) (body-again (kindAt t 0) fit)
 
 -- ---- the bytes of a value are a field that says it
-kind-tag : (k : Kind) → kindOf (tagOf k) ≡ k
+pub kind-tag : (k : Kind) → kindOf (tagOf k) ≡ k
 kind-tag VertexCount = refl
 kind-tag Kind.Arc = refl
 kind-tag Kind.RuleSet = refl
@@ -171,10 +171,10 @@ kind-tag Path = refl
 kind-tag Unknown = refl
 
 module _ (rest : List ℕ) where
-  length-first : (k : Kind) (v : Value k) → lengthAt (written k v ++ rest) 0 ≡ length (bodyOf k v)
+  pub length-first : (k : Kind) (v : Value k) → lengthAt (written k v ++ rest) 0 ≡ length (bodyOf k v)
   length-first k v = two-value (length (bodyOf k v))
 
-  value-first : (k : Kind) (v : Value k) → valueAt k (written k v ++ rest) 0 ≡ v
+  pub value-first : (k : Kind) (v : Value k) → valueAt k (written k v ++ rest) 0 ≡ v
   value-first VertexCount v = refl
   value-first Kind.Arc v = ap (λ w. record { tail = v .tail; head = v .head; weight = w }) (omega arith)
   value-first Kind.RuleSet v = two-value v
