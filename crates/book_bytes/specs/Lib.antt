@@ -3,3 +3,4 @@ pub mod Bytes
 pub mod Field
 pub mod Adding
 pub mod Reads
+pub mod Written
