@@ -4,3 +4,5 @@ pub mod Field
 pub mod Adding
 pub mod Reads
 pub mod Written
+pub mod BookSize
+pub mod LongBook

@@ -10,7 +10,7 @@ use lib.ListN.{length, getD, take, drop, length-drop}
 use lib.Seq.{getD-take, take-all, length-take-le}
 use Rattle.book.specs.Reading.{reading, u16At}
 use Rattle.answer.specs.Answer.{AnsweredOf, AnsweredBy, Answered}
-use Rattle.book_size.specs.LongBook.{reading-front}
+use Rattle.book_bytes.specs.LongBook.{reading-front}
 
 book-front : (s : List ℕ) → drop 4 (take 65536 s) ≡ take 65532 (drop 4 s)
 book-front [] = refl

@@ -1,4 +1,4 @@
--- How many bytes a book can have (01: the longest acceptable book has 39,188).
+-- Laws: how many bytes a book can have.
 use Prim.Native.Nat.{ℕ, _+_, _-_, _*_, _≤_, _<_}
 use mathlib.Core.Path.{_≡_, refl, sym, ap, _∙_}
 use mathlib.Core.Bool.{Bool, true, false, cond, not, _&&_, true≢false, false≢true}
@@ -17,6 +17,7 @@ use Rattle.book.specs.declared.Kind.{Kind}
 use Rattle.book.specs.declared.Kind.the-variants.{VertexCount, Path, Unknown}
 use Rattle.book.specs.Book.{Book, All, IsArc, PairsOnce, WellFormed, allPaths, given}
 use Rattle.book.specs.BookLaws.{given-cons, paths-set, paths-path, length-sets-path, not-zero}
+use Rattle.book_bytes.specs.Bytes.{longestBook}
 use Rattle.book.specs.Reading.{lengthAt, endAt, countAt, arcAt, flagsAt, pathAt, follows, fits, proper, extended}
 
 -- ---- at most 64 * 63 arcs
@@ -79,7 +80,7 @@ module _ (n : ℕ) (few : n ≤ 64) where
 abbrev pub size : Book → ℕ
 size b = 4 + length (b .arcs) * 9 + length (b .sets) * 5 + length (allPaths (b .sets)) * 11
 
-pub size-bound : (b : Book) → WellFormed b → size b ≤ 39188
+pub size-bound : (b : Book) → WellFormed b → size b ≤ longestBook
 size-bound b w = omega (arith, few-arcs (b .count) (w .few-vertices) (b .arcs) (w .arcs-proper) (w .pairs-once), w .few-sets, w .few-paths)
 
 -- What has been read up to byte `at` takes that many bytes at most; before the count there is nothing.

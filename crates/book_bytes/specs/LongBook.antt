@@ -1,4 +1,4 @@
--- A book is short: the longest that is accepted has 39,188 bytes (01), and of a longer one the first bad field is found within the first.
+-- Laws: a book that is accepted is short, and of a longer byte string the first bad field is found within the first bytes.
 use Prim.Native.Nat.{ℕ, zero, suc, _+_, _*_, _≤_, _<_}
 use mathlib.Core.Path.{_≡_, refl, sym, ap, ap₂, subst, _∙_}
 use mathlib.Core.Bool.{Bool, true, false, cond, not, _&&_, false≢true}
@@ -20,7 +20,8 @@ use Rattle.book.specs.Refusal.{firstFailure}
 use Rattle.book.specs.Book.{Book, WellFormed, blank, given, properArc, simple, allPaths}
 use Rattle.book.specs.BookLaws.{blank-well-formed, field-passed, field-extends, field-well-formed}
 use Rattle.book.specs.Reading.{Reading, accepted, refused, reading, fields, field, andThen, outcome, taken, content, extended, addPath, follows, fits, kindOf, kindAt, lengthAt, endAt, arcAt, flagsAt, pathAt}
-use Rattle.book_size.specs.BookSize.{Sized, size-bound, next-sized}
+use Rattle.book_bytes.specs.Bytes.{longestBook}
+use Rattle.book_bytes.specs.BookSize.{Sized, size-bound, next-sized}
 
 -- ---- a field looks at no byte behind its own
 -- the verdict of the four tests of the frame, and of the rest
@@ -137,7 +138,7 @@ sized-after s b at b′ w z e =
     let p = field-passed s b at b′ e in
     subst (λ x. Sized x (endAt s at)) (sym (field-extends s b at b′ e)) (next-sized (kindAt s at) s b at w z (p .order) (p .fit) (p .value))
 
-module _ (s : List ℕ) (m : ℕ) (long : m ≤ length s) (enough : 39199 ≤ m) where
+module _ (s : List ℕ) (m : ℕ) (long : m ≤ length s) (enough : longestBook + 11 ≤ m) where
   room : (b : Book) (at : ℕ) → WellFormed b → Sized b at → at + 11 ≤ m
   room b at w z = omega (arith, z .within, size-bound b w)
 
@@ -163,32 +164,32 @@ reading-fields (x ∷ s) h = refl
 blank-sized : Sized blank 0
 blank-sized = record { within = omega arith; first = λ e. refl }
 
-pub reading-front : (s : List ℕ) (m : ℕ) → m ≤ length s → 39199 ≤ m → reading (take m s) ≡ reading s
+pub reading-front : (s : List ℕ) (m : ℕ) → m ≤ length s → longestBook + 11 ≤ m → reading (take m s) ≡ reading s
 reading-front s m long enough =
     let size = length-take-le m s long in
     reading-fields (take m s) (omega (arith, size))
     ∙ fields-same s m long enough (length s) (length (take m s)) blank 0 blank-well-formed blank-sized (omega arith) (omega (arith, size))
     ∙ sym (reading-fields s (omega arith))
 
--- 01: the longest acceptable book has 39,188 bytes.
-fields-short : (turns : ℕ) (s : List ℕ) (b : Book) (at : ℕ) (b′ : Book) → WellFormed b → Sized b at → length s ≤ turns + at → fields turns s b at ≡ accepted b′ → length s ≤ 39188
+-- Every book that is read is at most as long as the longest.
+fields-short : (turns : ℕ) (s : List ℕ) (b : Book) (at : ℕ) (b′ : Book) → WellFormed b → Sized b at → length s ≤ turns + at → fields turns s b at ≡ accepted b′ → length s ≤ longestBook
 unfolding fields
 fields-short zero s b at b′ w z h e = omega (arith, z .within, size-bound b w)
 fields-short (suc turns) s b at b′ w z h e =
     go (ltb at (length s)) refl e
     (λ b₁ here. fields-short turns s b₁ (endAt s at) b′ (field-well-formed s b at b₁ w here) (sized-after s b at b₁ w z here) (omega arith))
   where
-    later : (r : Reading) → field s b at ≡ r → ((b₁ : Book) → field s b at ≡ accepted b₁ → fields turns s b₁ (endAt s at) ≡ accepted b′ → length s ≤ 39188)
-        → andThen r (rest turns s at) ≡ accepted b′ → length s ≤ 39188
+    later : (r : Reading) → field s b at ≡ r → ((b₁ : Book) → field s b at ≡ accepted b₁ → fields turns s b₁ (endAt s at) ≡ accepted b′ → length s ≤ longestBook)
+        → andThen r (rest turns s at) ≡ accepted b′ → length s ≤ longestBook
     later (accepted b₁) is step q = step b₁ is q
     later (refused x) is step q = absurd (let no : _≡_ {A = ℕ} 0 1 = cc in omega arith)
 
     go : (x : Bool) → ltb at (length s) ≡ x → cond x (andThen (field s b at) (rest turns s at)) (accepted b) ≡ accepted b′
-        → ((b₁ : Book) → field s b at ≡ accepted b₁ → fields turns s b₁ (endAt s at) ≡ accepted b′ → length s ≤ 39188) → length s ≤ 39188
+        → ((b₁ : Book) → field s b at ≡ accepted b₁ → fields turns s b₁ (endAt s at) ≡ accepted b′ → length s ≤ longestBook) → length s ≤ longestBook
     go true x q step = later (field s b at) refl step q
     go false x q step = omega (arith, ltb-false at (length s) x, z .within, size-bound b w)
 
-pub longest-book : (s : List ℕ) (b : Book) → reading s ≡ accepted b → length s ≤ 39188
+pub longest-book : (s : List ℕ) (b : Book) → reading s ≡ accepted b → length s ≤ longestBook
 longest-book [] b e = omega arith
 longest-book (x ∷ s) b e =
     fields-short (length (x ∷ s)) (x ∷ s) blank 0 b blank-well-formed blank-sized (omega arith) (sym (reading-fields (x ∷ s) (omega arith)) ∙ e)
