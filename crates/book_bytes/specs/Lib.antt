@@ -6,3 +6,6 @@ pub mod Reads
 pub mod Written
 pub mod BookSize
 pub mod LongBook
+pub mod BytesLaws
+pub mod RoundTrip
+pub mod Longest

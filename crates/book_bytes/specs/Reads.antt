@@ -107,11 +107,11 @@ paths-append [] rs = refl
 paths-append (s ∷ ss) rs = ap (λ l. s .paths ++ l) (paths-append ss rs) ∙ sym (append-assoc (s .paths) (allPaths ss) (allPaths rs))
 
 module _ {A : Type 0} (P : A → Type 0) where
-  all-left : (xs ys : List A) → All P (xs ++ ys) → All P xs
+  pub all-left : (xs ys : List A) → All P (xs ++ ys) → All P xs
   all-left [] ys h = tt
   all-left (x ∷ xs) ys h = (h .0, all-left xs ys (h .1))
 
-  all-right : (xs ys : List A) → All P (xs ++ ys) → All P ys
+  pub all-right : (xs ys : List A) → All P (xs ++ ys) → All P ys
   all-right [] ys h = h
   all-right (x ∷ xs) ys h = all-right xs ys (h .1)
 
@@ -153,7 +153,7 @@ module _ (n : ℕ) (arcs : List Arc) (low : 1 ≤ n) where
       (subst (λ l. Reads (book n arcs (done ++ (s ∷ []))) (flatMap setFields todo) (book n arcs l)) (append-assoc done (s ∷ []) todo)
       (sets-read (done ++ (s ∷ [])) todo (omega (arith, length-append done (s ∷ []))) (all-right (IsPath n) (s .paths) (allPaths todo) proper) (omega arith)))
 
-book-reads : (b : Book) → Keeps b → Reads blank (bytesOf b) b
+pub book-reads : (b : Book) → Keeps b → Reads blank (bytesOf b) b
 unfolding bytesOf allPaths
 book-reads b keeps =
     and-then
