@@ -1,24 +1,21 @@
 -- Laws of a field that is added to a book: when it is taken, and that it adds its bytes to the book's.
-use Prim.Native.Nat.{ℕ, zero, suc, _+_, _≤_, _<_}
-use mathlib.Core.Path.{_≡_, refl, sym, ap, ap₂, subst, _∙_}
-use mathlib.Core.Bool.{Bool, true, false, cond, not, _&&_, _||_, false≢true}
-use mathlib.Core.List.{List, [], _∷_, _++_, append-assoc, append-nil, flatMap}
+use Prim.Native.Nat.{ℕ, _+_}
+use mathlib.Core.Path.{_≡_, refl, ap, ap₂, _∙_}
+use mathlib.Core.Bool.{Bool, true, not, _&&_}
+use mathlib.Core.List.{List, _++_}
 use native.Mathlib.Omega.{arith}
-use borrow.Author.Tests.{lt-ltb, le-leb, ne-eqb, eqb-true}
-use lib.Dec.{eqb, leb, ltb}
+use borrow.Author.Tests.{le-leb}
+use lib.Dec.{leb}
 use lib.ListN.{length, length-append}
-use Rattle.limits.specs.Limits.{mostVertices, mostSets, mostPaths}
-use Rattle.lists.specs.Test.{and-true}
+use Rattle.limits.specs.Limits.{mostVertices}
 use Rattle.walks.specs.Graph.{Arc}
 use Rattle.book.specs.declared.Kind.{Kind}
 use Rattle.book.specs.declared.Kind.the-variants.{VertexCount, Path, Unknown}
 use Rattle.book.specs.RefusalLaws.{hold→none}
-use Rattle.book.specs.Refusal.{firstFailure}
-use Rattle.book.specs.Book.{RuleSet, Book, All, IsArc, IsPath, WellFormed, allPaths, given, properArc, pathLength, simple, isPath}
-use Rattle.book.specs.BookLaws.{bare, not-zero, all-snoc, IsPath→isPath}
+use Rattle.book.specs.Book.{RuleSet, Book, given, properArc, simple}
+use Rattle.book.specs.BookLaws.{bare}
 use Rattle.book.specs.Reading.{accepted, kindAt, lengthAt, endAt, follows, fits, proper, fresh, room, framing, content, extended, addPath, addArc, outcome, field}
-use Rattle.book_bytes.specs.Bytes.{arcField, flagsField, pathField, setFields, countField, bytesOf}
-use Rattle.book_bytes.specs.Field.{Value, valueAt, tagOf, bodyOf, written, kind-moved, length-moved, value-moved, kind-tag, length-first, value-first}
+use Rattle.book_bytes.specs.Field.{Value, valueAt, bodyOf, written, length-written, kind-moved, length-moved, value-moved, kind-first, length-first, value-first}
 
 -- ---- a value added to a book, and its tests
 abbrev pub added : (k : Kind) → Book → Value k → Book
@@ -80,7 +77,7 @@ module _ (front rest : List ℕ) (b : Book) (k : Kind) (v : Value k) where
   at = length front
 
   kind-read : kindAt all at ≡ k
-  kind-read = kind-moved front (written k v ++ rest) ∙ kind-tag k
+  kind-read = kind-moved front (written k v ++ rest) ∙ kind-first rest k v
 
   length-read : lengthAt all at ≡ length (bodyOf k v)
   length-read = length-moved front (written k v ++ rest) ∙ length-first rest k v
@@ -89,19 +86,30 @@ module _ (front rest : List ℕ) (b : Book) (k : Kind) (v : Value k) where
   value-read = value-moved front (written k v ++ rest) k ∙ value-first rest k v
 
   pub end-read : endAt all at ≡ length (front ++ written k v)
-  end-read = omega (arith, length-read, length-append front (written k v))
+  end-read = omega (arith, length-read, length-written k v, length-append front (written k v))
 
   pub field-read : Takes k b v → field all b at ≡ accepted (added k b v)
   field-read takes =
-      let size = length-append front (written k v ++ rest) in
-      let size′ = length-append (bodyOf k v) rest in
+      let size = length-append front (written k v ++ rest) ∙ ap (λ n. length front + n) (length-append (written k v) rest) in
+      let size′ = length-written k v in
       ap (λ o. outcome o (extended (kindAt all at) all b at))
-      (hold→none (framing all (b .count) (length (b .sets)) at ++ content (kindAt all at) all b at)
-      (le-leb (at + 3) (length all) (omega (arith, size, size′)),
-      (ap (follows (b .count) (length (b .sets))) kind-read ∙ takes .order,
-      (ap₂ fits kind-read length-read ∙ takes .fit,
-      (le-leb (endAt all at) (length all) (omega (arith, length-read, size, size′)),
-      (ap (λ x. proper x all b at) kind-read ∙ proper-value all b at k ∙ ap (properValue k b) value-read ∙ takes .value,
-      (ap (λ x. fresh x all b at) kind-read ∙ fresh-value all b at k ∙ ap (freshValue k b) value-read ∙ takes .once,
-      (ap (λ x. room x b) kind-read ∙ takes .space, tt))))))))
+      (hold→none (framing all (b .count) (length (b .sets)) at ++ content (kindAt all at) all b at) (
+        le-leb (at + 3) (length all) (omega (arith, size, size′)),
+        (
+          ap (follows (b .count) (length (b .sets))) kind-read ∙ takes .order,
+          (
+            ap₂ fits kind-read length-read ∙ takes .fit,
+            (
+              le-leb (endAt all at) (length all) (omega (arith, length-read, size, size′)),
+              (
+                ap (λ x. proper x all b at) kind-read ∙ proper-value all b at k ∙ ap (properValue k b) value-read ∙ takes .value,
+                (
+                  ap (λ x. fresh x all b at) kind-read ∙ fresh-value all b at k ∙ ap (freshValue k b) value-read ∙ takes .once,
+                  (ap (λ x. room x b) kind-read ∙ takes .space, tt),
+                ),
+              ),
+            ),
+          ),
+        ),
+      ))
       ∙ ap accepted (ap (λ x. extended x all b at) kind-read ∙ extended-added all b at k ∙ ap (added k b) value-read)

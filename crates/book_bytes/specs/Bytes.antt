@@ -7,6 +7,9 @@ use Rattle.walks.specs.Graph.{Arc}
 use Rattle.book.specs.Book.{RuleSet, Book, All, IsArc, PairsOnce, IsPath, allPaths}
 
 -- ---- the bytes
+abbrev pub AreBytes : List ℕ → Type 0
+AreBytes s = All (λ x. x < 256) s
+
 -- a number in two bytes, and in four, the high byte first
 abbrev pub twoBytes : ℕ → List ℕ
 twoBytes n = n / 256 ∷ n % 256 ∷ []

@@ -1,40 +1,44 @@
 -- Laws of a book's bytes: each is a byte, and how many they are.
 use Prim.Native.Nat.{ℕ, _+_, _*_, _≤_, _<_}
-use mathlib.Core.Path.{_≡_, refl, ap, _∙_}
+use mathlib.Core.Path.{_≡_, refl}
 use mathlib.Core.List.{List, [], _∷_, _++_, flatMap}
 use native.Mathlib.Omega.{arith}
 use lib.ListN.{length, length-append}
-use Rattle.limits.specs.Limits.{mostVertices, longestPath}
+use Rattle.limits.specs.Limits.{mostVertices}
 use Rattle.walks.specs.Graph.{Arc}
 use Rattle.book.specs.Book.{RuleSet, Book, All, IsArc, IsPath, allPaths}
 use Rattle.book.specs.BookLaws.{all-map}
-use Rattle.book_bytes.specs.Bytes.{countField, arcField, flagsField, pathField, setFields, bytesOf, Keeps}
+use Rattle.book_bytes.specs.Bytes.{AreBytes, countField, arcField, flagsField, pathField, setFields, bytesOf, Keeps}
 use Rattle.book_bytes.specs.Reads.{all-left, all-right}
 
 -- ---- every byte is below 256
-abbrev pub Bytes : List ℕ → Type 0
-Bytes = All (λ x. x < 256)
-
 all-append : {A : Type 0} (P : A → Type 0) (xs ys : List A) → All P xs → All P ys → All P (xs ++ ys)
 all-append P [] ys h k = k
 all-append P (x ∷ xs) ys h k = (h .0, all-append P xs ys (h .1) k)
 
-module _ {A : Type 0} (P : A → Type 0) (f : A → List ℕ) (each : (x : A) → P x → Bytes (f x)) where
-  flat-bytes : (xs : List A) → All P xs → Bytes (flatMap f xs)
+module _ {A : Type 0} (P : A → Type 0) (f : A → List ℕ) (each : (x : A) → P x → AreBytes (f x)) where
+  flat-bytes : (xs : List A) → All P xs → AreBytes (flatMap f xs)
   unfolding flatMap
   flat-bytes [] h = tt
   flat-bytes (x ∷ xs) h = all-append (λ y. y < 256) (f x) (flatMap f xs) (each x (h .0)) (flat-bytes xs (h .1))
 
 module _ (n : ℕ) (few : n ≤ mostVertices) where
-  arc-bytes : (a : Arc) → IsArc n a → Bytes (arcField a)
-  arc-bytes a is =
-      (omega arith, (omega arith, (omega arith,
-      (omega (arith, is .tail-below), (omega (arith, is .head-below), (omega (arith, is .light), (omega arith, (omega arith, (omega arith, tt)))))))))
+  arc-bytes : (a : Arc) → IsArc n a → AreBytes (arcField a)
+  arc-bytes a is = (
+    omega arith,
+    (
+      omega arith,
+      (
+        omega arith,
+        (omega (arith, is .tail-below), (omega (arith, is .head-below), (omega (arith, is .light), (omega arith, (omega arith, (omega arith, tt)))))),
+      ),
+    ),
+  )
 
-  path-bytes : (p : List ℕ) → IsPath n p → Bytes (pathField p)
+  path-bytes : (p : List ℕ) → IsPath n p → AreBytes (pathField p)
   path-bytes p is = (omega arith, (omega (arith, is .eight), (omega arith, all-map (λ v h. omega arith) p (is .below))))
 
-  sets-bytes : (ss : List RuleSet) → All (λ s. s .flags < 65536) ss → All (IsPath n) (allPaths ss) → Bytes (flatMap setFields ss)
+  sets-bytes : (ss : List RuleSet) → All (λ s. s .flags < 65536) ss → All (IsPath n) (allPaths ss) → AreBytes (flatMap setFields ss)
   unfolding flatMap allPaths
   sets-bytes [] flags paths = tt
   sets-bytes (s ∷ ss) flags paths =
@@ -45,7 +49,7 @@ module _ (n : ℕ) (few : n ≤ mostVertices) where
       (sets-bytes ss (flags .1) (all-right (IsPath n) (s .paths) (allPaths ss) paths))
 
 -- The bytes of a book that keeps the rules are bytes.
-pub bytes-below : (b : Book) → Keeps b → Bytes (bytesOf b)
+pub bytes-below : (b : Book) → Keeps b → AreBytes (bytesOf b)
 unfolding bytesOf
 bytes-below b keeps =
     let few = keeps .few-vertices in

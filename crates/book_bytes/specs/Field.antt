@@ -1,20 +1,19 @@
 -- Laws of one field: its bytes tell what it says, and what it says tells its bytes.
 use Prim.Native.Nat.{ℕ, zero, suc, _+_, _*_, _/_, _%_, _≤_, _<_}
 use mathlib.Core.Path.{_≡_, refl, sym, ap, ap₂, subst, _∙_}
-use mathlib.Core.Bool.{Bool, true, false, cond, not, _&&_, false≢true}
-use mathlib.Core.List.{List, [], _∷_, _++_, append-assoc}
+use mathlib.Core.Bool.{Bool, true, false, cond, false≢true}
+use mathlib.Core.List.{List, [], _∷_, _++_}
 use native.Mathlib.Nat.{add-zero}
 use native.Mathlib.Omega.{arith}
-use borrow.Author.Tests.{leb-true, le-leb, eqb-true}
-use lib.Dec.{eqb, leb}
-use lib.ListN.{length, getD, take, drop, length-append}
+use borrow.Author.Tests.{eqb-true}
+use lib.Dec.{eqb}
+use lib.ListN.{length, getD, take, drop}
 use lib.Seq.{slice, slice-cons, slice-empty, length-take-le, take-append-add, drop-append-add, take-append-seam, getD-append-add}
 use Rattle.walks.specs.Graph.{Arc}
 use Rattle.book.specs.declared.Kind.{Kind}
 use Rattle.book.specs.declared.Kind.the-variants.{VertexCount, Path, Unknown}
-use Rattle.book.specs.Book.{Book, All}
-use Rattle.book.specs.Reading.{kindOf, kindAt, lengthAt, endAt, countAt, arcAt, flagsAt, pathAt, fits, extended, addPath, addArc}
-use Rattle.book_bytes.specs.Bytes.{twoBytes, fourBytes, fieldOf}
+use Rattle.book.specs.Reading.{kindOf, kindAt, lengthAt, endAt, countAt, arcAt, flagsAt, pathAt, fits}
+use Rattle.book_bytes.specs.Bytes.{AreBytes, twoBytes, fourBytes, fieldOf, countField, arcField, flagsField, pathField}
 
 -- ---- what a field of each kind says
 abbrev pub Value : Kind → Type 0
@@ -31,23 +30,34 @@ valueAt Kind.RuleSet s at = flagsAt s at
 valueAt Path s at = pathAt s at
 valueAt Unknown s at = tt
 
--- its tag and its body
-abbrev pub tagOf : Kind → ℕ
+-- its bytes: its tag, and its body behind the head of three bytes
+abbrev pub written : (k : Kind) → Value k → List ℕ
+written VertexCount n = countField n
+written Kind.Arc a = arcField a
+written Kind.RuleSet f = flagsField f
+written Path p = pathField p
+written Unknown v = fieldOf 0 []
+
+abbrev pub bodyOf : (k : Kind) → Value k → List ℕ
+bodyOf k v = drop 3 (written k v)
+
+tagOf : Kind → ℕ
 tagOf VertexCount = 1
 tagOf Kind.Arc = 2
 tagOf Kind.RuleSet = 3
 tagOf Path = 4
 tagOf Unknown = 0
 
-abbrev pub bodyOf : (k : Kind) → Value k → List ℕ
-bodyOf VertexCount n = n ∷ []
-bodyOf Kind.Arc a = a .tail ∷ a .head ∷ fourBytes (a .weight)
-bodyOf Kind.RuleSet f = twoBytes f
-bodyOf Path p = p
-bodyOf Unknown v = []
+framed : (k : Kind) (v : Value k) → written k v ≡ fieldOf (tagOf k) (bodyOf k v)
+unfolding tagOf
+framed VertexCount v = refl
+framed Kind.Arc v = refl
+framed Kind.RuleSet v = refl
+framed Path v = refl
+framed Unknown v = refl
 
-abbrev pub written : (k : Kind) → Value k → List ℕ
-written k v = fieldOf (tagOf k) (bodyOf k v)
+pub length-written : (k : Kind) (v : Value k) → length (written k v) ≡ 3 + length (bodyOf k v)
+length-written k v = ap length (framed k v) ∙ omega arith
 
 -- ---- numbers and their bytes
 pub two-again : (x y : ℕ) → x < 256 → y < 256 → twoBytes (x * 256 + y) ≡ x ∷ y ∷ []
@@ -102,13 +112,14 @@ module _ (front t : List ℕ) where
   value-moved Unknown = refl
 
 -- ---- bytes that are a field are the bytes of what it says
-pub byte-below : (t : List ℕ) → All (λ x. x < 256) t → (i : ℕ) → getD t i 0 < 256
+pub byte-below : (t : List ℕ) → AreBytes t → (i : ℕ) → getD t i 0 < 256
 byte-below [] bytes i = omega arith
 byte-below (x ∷ t) bytes zero = bytes .0
 byte-below (x ∷ t) bytes (suc i) = byte-below t (bytes .1) i
 
 -- a known tag is its kind's
 tag-again : (x n : ℕ) → fits (kindOf x) n ≡ true → x ≡ tagOf (kindOf x)
+unfolding tagOf
 tag-again x n = go (eqb x 1) (eqb x 2) (eqb x 3) (eqb x 4) refl refl refl refl
   where
     kind : Bool → Bool → Bool → Bool → Kind
@@ -132,7 +143,7 @@ slice-elements l f (suc n) h =
     let next : f + suc n ≡ suc f + n = omega arith in
     slice-cons f (f + suc n) l 0 (omega arith) h ∙ ap (λ r. getD l f 0 ∷ r) (ap (λ e. slice (suc f) e l) next ∙ slice-elements l (suc f) n (omega arith))
 
-frame-again : (t : List ℕ) → All (λ x. x < 256) t → endAt t 0 ≤ length t → take (endAt t 0) t ≡ fieldOf (getD t 0 0) (pathAt t 0)
+frame-again : (t : List ℕ) → AreBytes t → endAt t 0 ≤ length t → take (endAt t 0) t ≡ fieldOf (getD t 0 0) (pathAt t 0)
 frame-again [] bytes h = absurd (omega arith)
 frame-again (x ∷ []) bytes h = absurd (omega arith)
 frame-again (x ∷ y ∷ []) bytes h = absurd (omega arith)
@@ -143,7 +154,7 @@ frame-again (x ∷ y ∷ z ∷ r) bytes h =
     ap twoBytes (length-take-le n r (omega arith)) ∙ two-again y z (bytes .1 .0) (bytes .1 .1 .0) in
     subst (λ m. take m (x ∷ y ∷ z ∷ r) ≡ fieldOf x (slice 3 m (x ∷ y ∷ z ∷ r))) (sym end) (sym (ap (λ l. (x ∷ l) ++ take n r) size))
 
-module _ (t : List ℕ) (bytes : All (λ x. x < 256) t) (held : endAt t 0 ≤ length t) where
+module _ (t : List ℕ) (bytes : AreBytes t) (held : endAt t 0 ≤ length t) where
   sized : (n : ℕ) → lengthAt t 0 ≡ n → pathAt t 0 ≡ elements t 3 n
   sized n e = ap (λ m. slice 3 (3 + m) t) e ∙ slice-elements t 3 n (omega arith)
 
@@ -160,19 +171,21 @@ module _ (t : List ℕ) (bytes : All (λ x. x < 256) t) (held : endAt t 0 ≤ le
 
   pub field-again : fits (kindAt t 0) (lengthAt t 0) ≡ true → take (endAt t 0) t ≡ written (kindAt t 0) (valueAt (kindAt t 0) t 0)
   field-again fit =
-      frame-again t bytes held ∙ ap₂ fieldOf (tag-again (getD t 0 0) (lengthAt t 0) fit) (body-again (kindAt t 0) fit)
+      frame-again t bytes held
+      ∙ ap₂ fieldOf (tag-again (getD t 0 0) (lengthAt t 0) fit) (body-again (kindAt t 0) fit)
+      ∙ sym (framed (kindAt t 0) (valueAt (kindAt t 0) t 0))
 
 -- ---- the bytes of a value are a field that says it
-pub kind-tag : (k : Kind) → kindOf (tagOf k) ≡ k
-kind-tag VertexCount = refl
-kind-tag Kind.Arc = refl
-kind-tag Kind.RuleSet = refl
-kind-tag Path = refl
-kind-tag Unknown = refl
-
 module _ (rest : List ℕ) where
+  pub kind-first : (k : Kind) (v : Value k) → kindAt (written k v ++ rest) 0 ≡ k
+  kind-first VertexCount v = refl
+  kind-first Kind.Arc v = refl
+  kind-first Kind.RuleSet v = refl
+  kind-first Path v = refl
+  kind-first Unknown v = refl
+
   pub length-first : (k : Kind) (v : Value k) → lengthAt (written k v ++ rest) 0 ≡ length (bodyOf k v)
-  length-first k v = two-value (length (bodyOf k v))
+  length-first k v = ap (λ l. lengthAt (l ++ rest) 0) (framed k v) ∙ two-value (length (bodyOf k v))
 
   pub value-first : (k : Kind) (v : Value k) → valueAt k (written k v ++ rest) 0 ≡ v
   value-first VertexCount v = refl

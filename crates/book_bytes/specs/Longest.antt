@@ -1,6 +1,6 @@
 -- A longest book: 64 vertices, an arc for each ordered pair of different ones, and 16 rule sets of 16 paths of 8 vertices.
-use Prim.Native.Nat.{ℕ, zero, suc, _+_, _*_, _≤_, _<_}
-use mathlib.Core.Path.{_≡_, refl, sym, ap, ap₂, _∙_}
+use Prim.Native.Nat.{ℕ, zero, suc, _+_, _*_, _<_}
+use mathlib.Core.Path.{_≡_, refl, ap₂, _∙_}
 use mathlib.Core.Bool.{Bool, true, false, cond, _&&_, _||_}
 use mathlib.Core.List.{List, [], _∷_, flatMap}
 use mathlib.Core.Logic.{⊎-elim}
@@ -11,12 +11,12 @@ use lib.ListN.{length, replicate}
 use Rattle.limits.specs.Limits.{mostVertices, mostSets, longestPath}
 use Rattle.lists.specs.Test.{all, and-true, either}
 use Rattle.walks.specs.Graph.{Arc}
-use Rattle.book.specs.Book.{RuleSet, Book, All, PairsOnce, allPaths, given, properArc, names, simple, isPath}
+use Rattle.book.specs.Book.{Book, All, PairsOnce, allPaths, given, properArc, names, simple, isPath}
 use Rattle.book.specs.BookLaws.{is-arc, isPath→IsPath, given-cons}
 use Rattle.book.specs.Reading.{accepted, reading}
-use Rattle.book_bytes.specs.Bytes.{bytesOf, Keeps, longestBook}
-use Rattle.book_bytes.specs.BytesLaws.{Bytes, bytes-below, length-bytes}
-use Rattle.book_bytes.specs.Reads.{every-book-read}
+use Rattle.book_bytes.specs.Bytes.{AreBytes, bytesOf, Keeps, longestBook}
+use Rattle.book_bytes.specs.BytesLaws.{bytes-below, length-bytes}
+use Rattle.book_bytes.specs.RoundTrip.{every-book-read}
 
 -- n numbers from u on
 abbrev pub upFrom : ℕ → ℕ → List ℕ
@@ -107,5 +107,5 @@ pub full-length : length (bytesOf fullBook) ≡ longestBook
 unfolding flatMap allPaths
 full-length = length-bytes fullBook
 
-pub longest-attained : (s : List ℕ) × Bytes s × (reading s ≡ accepted fullBook) × (length s ≡ longestBook)
+pub longest-attained : (s : List ℕ) × AreBytes s × (reading s ≡ accepted fullBook) × (length s ≡ longestBook)
 longest-attained = (bytesOf fullBook, bytes-below fullBook full-keeps, every-book-read fullBook full-keeps, full-length)

@@ -1,22 +1,22 @@
 -- Laws: the bytes of a book that keeps the rules are read, field after field, as that book.
-use Prim.Native.Nat.{ℕ, zero, suc, _+_, _≤_, _<_}
+use Prim.Native.Nat.{ℕ, zero, suc, _+_, _≤_}
 use mathlib.Core.Path.{_≡_, refl, sym, ap, ap₂, subst, _∙_}
-use mathlib.Core.Bool.{Bool, true, false, cond, not, _&&_, _||_}
+use mathlib.Core.Bool.{true, false, cond, not, _&&_, _||_}
 use mathlib.Core.List.{List, [], _∷_, _++_, append-assoc, append-nil, flatMap}
 use native.Mathlib.Omega.{arith}
 use borrow.Author.Tests.{lt-ltb, le-ltb, le-leb, ne-eqb}
-use lib.Dec.{eqb, leb, ltb}
+use lib.Dec.{eqb}
 use lib.ListN.{length, length-append}
-use Rattle.limits.specs.Limits.{mostVertices, mostSets, mostPaths, longestPath}
+use Rattle.limits.specs.Limits.{mostVertices, mostSets, mostPaths}
 use Rattle.lists.specs.Test.{and-true, or-false}
 use Rattle.walks.specs.Graph.{Arc}
 use Rattle.book.specs.declared.Kind.{Kind}
 use Rattle.book.specs.declared.Kind.the-variants.{VertexCount, Path}
 use Rattle.book.specs.Book.{RuleSet, Book, blank, All, IsArc, PairsOnce, IsPath, allPaths, given, properArc, pathLength, simple, isPath}
-use Rattle.book.specs.BookLaws.{bare, given-cons, other-pair, IsPath→isPath, enough-turns}
-use Rattle.book.specs.Reading.{Reading, accepted, endAt, addPath, andThen, field, fields, reading}
-use Rattle.book_bytes.specs.Bytes.{countField, arcField, flagsField, pathField, setFields, bytesOf, Keeps}
-use Rattle.book_bytes.specs.Field.{Value, written}
+use Rattle.book.specs.BookLaws.{given-cons, other-pair, IsPath→isPath}
+use Rattle.book.specs.Reading.{Reading, accepted, endAt, addPath, andThen, field, fields}
+use Rattle.book_bytes.specs.Bytes.{countField, arcField, pathField, setFields, bytesOf, Keeps}
+use Rattle.book_bytes.specs.Field.{Value, written, length-written}
 use Rattle.book_bytes.specs.Adding.{added, Takes, end-read, field-read}
 
 -- The bytes x take what has been read from b to b′.
@@ -35,14 +35,14 @@ reads-fields stop front zero h = refl
 reads-fields {b} stop front (suc turns) h =
     ap (λ c. cond c (andThen (field (front ++ []) b (length front)) (λ b₁. fields turns (front ++ []) b₁ (endAt (front ++ []) (length front)))) (accepted b))
     (le-ltb (length front) (length (front ++ [])) (omega (arith, length-append front [])))
-reads-fields (next k v t r) front zero h = absurd (omega arith)
+reads-fields (next {x = x} k v t r) front zero h = absurd (omega (arith, length-append (written k v) x, length-written k v))
 reads-fields (next {b = b} {x = x} k v t r) front (suc turns) h =
     let s : List ℕ = front ++ (written k v ++ x) in
     ap (λ c. cond c (andThen (field s b (length front)) (λ b₁. fields turns s b₁ (endAt s (length front)))) (accepted b))
-    (lt-ltb (length front) (length s) (omega (arith, length-append front (written k v ++ x))))
+    (lt-ltb (length front) (length s) (omega (arith, length-append front (written k v ++ x), length-append (written k v) x, length-written k v)))
     ∙ ap (λ (a : Reading). andThen a (λ b₁. fields turns s b₁ (endAt s (length front)))) (field-read front x b k v t)
     ∙ ap₂ (λ l e. fields turns l (added k b v) e) (sym (append-assoc front (written k v) x)) (end-read front x b k v)
-    ∙ reads-fields r (front ++ written k v) turns (omega (arith, length-append (written k v) x))
+    ∙ reads-fields r (front ++ written k v) turns (omega (arith, length-append (written k v) x, length-written k v))
 
 -- ---- the tests, from the rules
 arc-passes : (n : ℕ) (a : Arc) → IsArc n a → properArc n a ≡ true
@@ -159,8 +159,3 @@ book-reads b keeps =
     and-then
     (and-then (count-read (b .count) (keeps .some-vertex) (keeps .few-vertices)) (arcs-read (b .count) (keeps .some-vertex) [] (b .arcs) (keeps .arcs-proper) (keeps .pairs-once)))
     (sets-read (b .count) (b .arcs) (keeps .some-vertex) [] (b .sets) (omega (arith, keeps .few-sets)) (keeps .paths-proper) (omega (arith, keeps .few-paths)))
-
--- Every book that keeps the rules is read.
-pub every-book-read : (b : Book) → Keeps b → reading (bytesOf b) ≡ accepted b
-unfolding reading bytesOf
-every-book-read b keeps = reads-fields (book-reads b keeps) [] (length (bytesOf b)) (omega arith)

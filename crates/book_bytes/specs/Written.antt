@@ -1,11 +1,11 @@
 -- Laws: bytes that are read as a book are that book's bytes.
-use Prim.Native.Nat.{ℕ, zero, suc, _+_, _*_, _≤_, _<_}
+use Prim.Native.Nat.{ℕ, zero, suc, _≤_, _<_}
 use mathlib.Core.Path.{_≡_, refl, sym, ap, ap₂, subst, _∙_}
-use mathlib.Core.Bool.{Bool, true, false, cond, not, _&&_, false≢true}
+use mathlib.Core.Bool.{true, not, false≢true}
 use mathlib.Core.List.{List, [], _∷_, _++_, append-assoc, append-nil, flatMap}
 use native.Mathlib.Omega.{arith}
 use borrow.Author.Tests.{lt-ltb, leb-true, eqb-true}
-use lib.Dec.{eqb, leb, ltb}
+use lib.Dec.{eqb, leb}
 use lib.ListN.{length, take, drop, length-append, length-drop, take-append-drop}
 use lib.Seq.{length-take-le}
 use Rattle.limits.specs.Limits.{mostVertices}
@@ -14,9 +14,9 @@ use Rattle.walks.specs.Graph.{Arc}
 use Rattle.book.specs.declared.Kind.{Kind}
 use Rattle.book.specs.declared.Kind.the-variants.{VertexCount, Path, Unknown}
 use Rattle.book.specs.Book.{RuleSet, Book, blank, All, IsArc, WellFormed}
-use Rattle.book.specs.BookLaws.{Passed, all-snoc, not-zero, field-passed, field-extends, field-well-formed, blank-well-formed, IsBook, reading-is-book, enough-turns}
+use Rattle.book.specs.BookLaws.{Passed, all-snoc, not-zero, field-passed, field-extends, field-well-formed, blank-well-formed, reading-is-book, enough-turns}
 use Rattle.book.specs.Reading.{Reading, accepted, refused, kindAt, lengthAt, endAt, follows, fits, proper, extended, addPath, andThen, field, fields, reading}
-use Rattle.book_bytes.specs.Bytes.{countField, arcField, flagsField, pathField, setFields, bytesOf, Keeps}
+use Rattle.book_bytes.specs.Bytes.{AreBytes, countField, arcField, flagsField, pathField, setFields, bytesOf, Keeps}
 use Rattle.book_bytes.specs.Field.{Value, valueAt, written, kind-moved, length-moved, value-moved, byte-below, field-again}
 use Rattle.book_bytes.specs.Adding.{added, properValue, extended-added, proper-value}
 use Rattle.book_bytes.specs.Reads.{stop, reads-fields}
@@ -82,19 +82,27 @@ next-so-far VertexCount b n front w z order value small =
     let low : 1 ≤ n = leb-true 1 n (and-true (leb 1 n) (leb n mostVertices) value .0) in
     let arcs-none : b .arcs ≡ [] = no-arcs (b .arcs) (subst (λ c. All (IsArc c) (b .arcs)) none (w .arcs-proper)) in
     let sets-none : b .sets ≡ [] = no-sets (b .sets) (b .count) (w .counted) none in
-    record { first = λ e. absurd (omega arith); later =
+    record {
+      first = λ e. absurd (omega arith);
+      later =
           λ _. ap (λ l. l ++ countField n) (z .first none)
-          ∙ ap₂ (λ xs ss. countField n ++ flatMap arcField xs ++ flatMap setFields ss) (sym arcs-none) (sym sets-none); flags-fit = z .flags-fit }
+          ∙ ap₂ (λ xs ss. countField n ++ flatMap arcField xs ++ flatMap setFields ss) (sym arcs-none) (sym sets-none);
+      flags-fit = z .flags-fit;
+    }
 next-so-far Kind.Arc b a front w z order value small =
     let (some, none) = and-true (not (eqb (b .count) 0)) (eqb (length (b .sets)) 0) order in
     let low : 1 ≤ b .count = not-zero (b .count) some in
     let sets-none : b .sets ≡ [] = no-elements (b .sets) (eqb-true _ 0 none) in
     let front-is = countField (b .count) ++ flatMap arcField (b .arcs) in
-    record { first = λ e. absurd (omega arith); later = λ _. ap (λ l. l ++ arcField a) (z .later low ∙ ap (λ ss. front-is ++ flatMap setFields ss) sets-none ∙ append-nil front-is)
-    ∙ append-assoc (countField (b .count)) (flatMap arcField (b .arcs)) (arcField a)
-    ∙ ap (λ l. countField (b .count) ++ l) (sym (flat-snoc arcField (b .arcs) a))
-    ∙ sym (append-nil _)
-    ∙ ap (λ ss. countField (b .count) ++ flatMap arcField (b .arcs ++ (a ∷ [])) ++ flatMap setFields ss) (sym sets-none); flags-fit = z .flags-fit }
+    record {
+      first = λ e. absurd (omega arith);
+      later = λ _. ap (λ l. l ++ arcField a) (z .later low ∙ ap (λ ss. front-is ++ flatMap setFields ss) sets-none ∙ append-nil front-is)
+          ∙ append-assoc (countField (b .count)) (flatMap arcField (b .arcs)) (arcField a)
+          ∙ ap (λ l. countField (b .count) ++ l) (sym (flat-snoc arcField (b .arcs) a))
+          ∙ sym (append-nil _)
+          ∙ ap (λ ss. countField (b .count) ++ flatMap arcField (b .arcs ++ (a ∷ [])) ++ flatMap setFields ss) (sym sets-none);
+      flags-fit = z .flags-fit;
+    }
 next-so-far Kind.RuleSet b f front w z order value small =
     let low : 1 ≤ b .count = not-zero (b .count) order in
     record {
@@ -107,9 +115,13 @@ next-so-far Kind.RuleSet b f front w z order value small =
 next-so-far Path b p front w z order value small =
     let some : 1 ≤ length (b .sets) = not-zero (length (b .sets)) order in
     let low : 1 ≤ b .count = w .counted some in
-    record { first = λ e. absurd (omega arith); later = λ _. ap (λ l. l ++ pathField p) (z .later low)
+    record {
+      first = λ e. absurd (omega arith);
+      later = λ _. ap (λ l. l ++ pathField p) (z .later low)
           ∙ append-assoc (countField (b .count) ++ flatMap arcField (b .arcs)) (flatMap setFields (b .sets)) (pathField p)
-          ∙ ap (λ l. countField (b .count) ++ flatMap arcField (b .arcs) ++ l) (sym (flat-path (b .sets) p some)); flags-fit = flags-path (b .sets) p (z .flags-fit) }
+          ∙ ap (λ l. countField (b .count) ++ flatMap arcField (b .arcs) ++ l) (sym (flat-path (b .sets) p some));
+      flags-fit = flags-path (b .sets) p (z .flags-fit);
+    }
 next-so-far Unknown b v front w z order value small = absurd (false≢true order)
 
 -- ---- all fields
@@ -118,7 +130,7 @@ all-drop P zero xs h = h
 all-drop P (suc n) [] h = tt
 all-drop P (suc n) (x ∷ xs) h = all-drop P n xs (h .1)
 
-small-value : (k : Kind) (t : List ℕ) → All (λ x. x < 256) t → Fits16 k (valueAt k t 0)
+small-value : (k : Kind) (t : List ℕ) → AreBytes t → Fits16 k (valueAt k t 0)
 small-value VertexCount t bytes = tt
 small-value Kind.Arc t bytes = tt
 small-value Kind.RuleSet t bytes = omega (arith, byte-below t bytes 3, byte-below t bytes 4)
@@ -126,7 +138,7 @@ small-value Path t bytes = tt
 small-value Unknown t bytes = tt
 
 -- one more field, whose bytes are the first of t
-module _ (front t : List ℕ) (bytes : All (λ x. x < 256) t) (b b′ : Book) (w : WellFormed b) (z : SoFar b front)
+module _ (front t : List ℕ) (bytes : AreBytes t) (b b′ : Book) (w : WellFormed b) (z : SoFar b front)
     (e : field (front ++ t) b (length front) ≡ accepted b′) where
   abbrev k : Kind
   k = kindAt t 0
@@ -159,7 +171,7 @@ module _ (front t : List ℕ) (bytes : All (λ x. x < 256) t) (b b′ : Book) (w
 module _ (b′ : Book) where
   -- from what has been read, the fields of t lead to b′
   abbrev Kept : ℕ → Type 0
-  Kept turns = (front t : List ℕ) (b : Book) → length t ≤ turns → All (λ x. x < 256) t → WellFormed b → SoFar b front
+  Kept turns = (front t : List ℕ) (b : Book) → length t ≤ turns → AreBytes t → WellFormed b → SoFar b front
       → fields turns (front ++ t) b (length front) ≡ accepted b′ → SoFar b′ (front ++ t)
 
   at-end : (turns : ℕ) (front : List ℕ) (b : Book) → SoFar b front → fields turns (front ++ []) b (length front) ≡ accepted b′ → SoFar b′ (front ++ [])
@@ -200,12 +212,12 @@ module _ (b′ : Book) where
   fields-so-far (suc turns) front t b h bytes w z e = one-more turns (fields-so-far turns) front t b h bytes w z e
 
 -- What is read keeps the rules, and its bytes were read.
-module _ (s : List ℕ) (bytes : All (λ x. x < 256) s) (b : Book) (e : reading s ≡ accepted b) where
+module _ (s : List ℕ) (bytes : AreBytes s) (b : Book) (e : reading s ≡ accepted b) where
   read-so-far : SoFar b s
   unfolding reading
   read-so-far = go s bytes e
     where
-      go : (s : List ℕ) → All (λ x. x < 256) s → reading s ≡ accepted b → SoFar b s
+      go : (s : List ℕ) → AreBytes s → reading s ≡ accepted b → SoFar b s
       go [] bytes e = absurd (let no : _≡_ {A = ℕ} 0 1 = cc in omega arith)
       go (x ∷ s) bytes e =
           fields-so-far b (length (x ∷ s)) [] (x ∷ s) blank (omega arith) bytes blank-well-formed
