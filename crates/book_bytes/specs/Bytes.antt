@@ -7,6 +7,7 @@ use Rattle.walks.specs.Graph.{Arc}
 use Rattle.book.specs.Book.{RuleSet, Book, All, IsArc, PairsOnce, IsPath, allPaths}
 
 -- ---- the bytes
+-- a byte string
 abbrev pub AreBytes : List ℕ → Type 0
 AreBytes s = All (λ x. x < 256) s
 
@@ -21,19 +22,19 @@ fourBytes n = twoBytes (n / 65536) ++ twoBytes (n % 65536)
 abbrev pub fieldOf : ℕ → List ℕ → List ℕ
 fieldOf tag body = (tag ∷ twoBytes (length body)) ++ body
 
--- 01: the count of vertices
+-- tag 01: the count of vertices
 abbrev pub countField : ℕ → List ℕ
 countField n = fieldOf 1 (n ∷ [])
 
--- 02: an arc
+-- tag 02: an arc
 abbrev pub arcField : Arc → List ℕ
 arcField a = fieldOf 2 (a .tail ∷ a .head ∷ fourBytes (a .weight))
 
--- 03: the flags of a rule set
+-- tag 03: the flags of a rule set
 abbrev pub flagsField : ℕ → List ℕ
 flagsField flags = fieldOf 3 (twoBytes flags)
 
--- 04: a forbidden path, a byte a vertex
+-- tag 04: a forbidden path, a byte a vertex
 abbrev pub pathField : List ℕ → List ℕ
 pathField path = fieldOf 4 path
 
