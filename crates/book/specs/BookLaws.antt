@@ -1,13 +1,13 @@
 -- Laws of a book's meaning: every book that is read is well formed.
 use Prim.Native.Nat.{ℕ, zero, suc, _+_, _-_, _≤_, _<_}
-use mathlib.Core.Path.{_≡_, refl, sym, ap, subst, fun-ext, _∙_}
+use mathlib.Core.Path.{_≡_, refl, sym, ap, ap₂, subst, fun-ext, _∙_}
 use mathlib.Core.Logic.{⊎-elim}
 use mathlib.Core.Bool.{Bool, true, false, cond, not, _&&_, _||_, true≢false, false≢true}
 use mathlib.Core.List.{List, [], _∷_, _++_, append-assoc, append-nil}
 use mathlib.Core.Option.{Option, none, some}
 use native.Mathlib.Nat.{zero-add, suc-add}
 use native.Mathlib.Omega.{arith}
-use borrow.Author.Tests.{ltb-true, leb-true, le-leb, eqb-true, eqb-false, eq-eqb, lt-ltb, le-ltb, not-true}
+use borrow.Author.Tests.{ltb-true, leb-true, le-leb, eqb-true, eqb-false, eq-eqb, ne-eqb, lt-ltb, le-ltb, not-true}
 use lib.Dec.{eqb, leb, ltb}
 use lib.ListN.{length, length-append}
 use lib.Seq.{length-slice}
@@ -33,6 +33,19 @@ pub all-snoc : {A : Type 0} (P : A → Type 0) (xs : List A) (x : A) → All P x
 all-snoc P [] x h k = (k, tt)
 all-snoc P (y ∷ xs) x h k = (h .0, all-snoc P xs x (h .1) k)
 
+module _ {A : Type 0} (P : A → Type 0) where
+  pub all-append : (xs ys : List A) → All P xs → All P ys → All P (xs ++ ys)
+  all-append [] ys h k = k
+  all-append (x ∷ xs) ys h k = (h .0, all-append xs ys (h .1) k)
+
+  pub all-left : (xs ys : List A) → All P (xs ++ ys) → All P xs
+  all-left [] ys h = tt
+  all-left (x ∷ xs) ys h = (h .0, all-left xs ys (h .1))
+
+  pub all-right : (xs ys : List A) → All P (xs ++ ys) → All P ys
+  all-right [] ys h = h
+  all-right (x ∷ xs) ys h = all-right xs ys (h .1)
+
 -- ---- the tests as facts
 pub is-arc : (count : ℕ) (a : Arc) → properArc count a ≡ true → IsArc count a
 is-arc count a e =
@@ -45,6 +58,10 @@ is-arc count a e =
       different = eqb-false _ _ (not-true _ (two .1));
       light = leb-true _ _ (three .1);
     }
+
+pub arc-passes : (n : ℕ) (a : Arc) → IsArc n a → properArc n a ≡ true
+arc-passes n a is =
+    ap₂ _&&_ (ap₂ _&&_ (ap₂ _&&_ (lt-ltb _ _ (is .tail-below)) (lt-ltb _ _ (is .head-below))) (ap not (ne-eqb _ _ (is .different)))) (le-leb _ _ (is .light))
 
 pub simple-below : (count : ℕ) (p : List ℕ) → simple count p ≡ true → All (λ v. v < count) p
 unfolding simple
@@ -100,6 +117,18 @@ other-pair p q t h e =
     absurd (true≢false (sym back ∙ e)))
     (λ n. n)
     (either (eqb t p && eqb h q))
+
+-- a pair that is given once is not given before
+given-after : (xs : List Arc) (a : Arc) (ys : List Arc) (t h : ℕ) → given (xs ++ (a ∷ ys)) t h ≡ false → eqb (a .tail) t && eqb (a .head) h ≡ false
+given-after [] a ys t h e = or-false (eqb (a .tail) t && eqb (a .head) h) (given ys t h) (sym (given-cons a ys t h) ∙ e) .0
+given-after (x ∷ xs) a ys t h e =
+    given-after xs a ys t h (or-false (eqb (x .tail) t && eqb (x .head) h) (given (xs ++ (a ∷ ys)) t h) (sym (given-cons x (xs ++ (a ∷ ys)) t h) ∙ e) .1)
+
+pub not-before : (xs : List Arc) (a : Arc) (ys : List Arc) → PairsOnce (xs ++ (a ∷ ys)) → given xs (a .tail) (a .head) ≡ false
+not-before [] a ys once = refl
+not-before (x ∷ xs) a ys once =
+    given-cons x xs (a .tail) (a .head)
+    ∙ ap₂ _||_ (other-pair (a .tail) (a .head) (x .tail) (x .head) (given-after xs a ys (x .tail) (x .head) (once .0))) (not-before xs a ys (once .1))
 
 pairs-snoc : (xs : List Arc) (a : Arc) → PairsOnce xs → given xs (a .tail) (a .head) ≡ false → PairsOnce (xs ++ (a ∷ []))
 pairs-snoc [] a h e = (refl, tt)
@@ -274,7 +303,7 @@ field-is-book s b at b′ w e =
       some-vertex = rw (field-extends s b at b′ e) (extended-counted (kindAt s at) s b at w (p .order) (p .value));
     }
 
-and-then-accepted : (r : Reading) (f : Book → Reading) (b′ : Book) → andThen r f ≡ accepted b′ → (b : Book) × (r ≡ accepted b) × (f b ≡ accepted b′)
+pub and-then-accepted : (r : Reading) (f : Book → Reading) (b′ : Book) → andThen r f ≡ accepted b′ → (b : Book) × (r ≡ accepted b) × (f b ≡ accepted b′)
 and-then-accepted (accepted b) f b′ e = (b, refl, e)
 and-then-accepted (refused r) f b′ e = absurd (let z : _≡_ {A = ℕ} 0 1 = cc in omega arith)
 

@@ -90,26 +90,15 @@ module _ (front rest : List ℕ) (b : Book) (k : Kind) (v : Value k) where
 
   pub field-read : Takes k b v → field all b at ≡ accepted (added k b v)
   field-read takes =
-      let size = length-append front (written k v ++ rest) ∙ ap (λ n. length front + n) (length-append (written k v) rest) in
-      let size′ = length-written k v in
+      let size : length all ≡ at + (3 + length (bodyOf k v) + length rest) =
+      omega (arith, length-append front (written k v ++ rest), length-append (written k v) rest, length-written k v) in
+      let order = ap (follows (b .count) (length (b .sets))) kind-read ∙ takes .order in
+      let fit = ap₂ fits kind-read length-read ∙ takes .fit in
+      let value = ap (λ x. proper x all b at) kind-read ∙ proper-value all b at k ∙ ap (properValue k b) value-read ∙ takes .value in
+      let once = ap (λ x. fresh x all b at) kind-read ∙ fresh-value all b at k ∙ ap (freshValue k b) value-read ∙ takes .once in
+      let space = ap (λ x. room x b) kind-read ∙ takes .space in
+      let head = le-leb (at + 3) (length all) (omega arith) in
+      let body = le-leb (endAt all at) (length all) (omega (arith, length-read)) in
       ap (λ o. outcome o (extended (kindAt all at) all b at))
-      (hold→none (framing all (b .count) (length (b .sets)) at ++ content (kindAt all at) all b at) (
-        le-leb (at + 3) (length all) (omega (arith, size, size′)),
-        (
-          ap (follows (b .count) (length (b .sets))) kind-read ∙ takes .order,
-          (
-            ap₂ fits kind-read length-read ∙ takes .fit,
-            (
-              le-leb (endAt all at) (length all) (omega (arith, length-read, size, size′)),
-              (
-                ap (λ x. proper x all b at) kind-read ∙ proper-value all b at k ∙ ap (properValue k b) value-read ∙ takes .value,
-                (
-                  ap (λ x. fresh x all b at) kind-read ∙ fresh-value all b at k ∙ ap (freshValue k b) value-read ∙ takes .once,
-                  (ap (λ x. room x b) kind-read ∙ takes .space, tt),
-                ),
-              ),
-            ),
-          ),
-        ),
-      ))
+      (hold→none (framing all (b .count) (length (b .sets)) at ++ content (kindAt all at) all b at) (head, (order, (fit, (body, (value, (once, (space, tt))))))))
       ∙ ap accepted (ap (λ x. extended x all b at) kind-read ∙ extended-added all b at k ∙ ap (added k b) value-read)

@@ -7,15 +7,10 @@ use lib.ListN.{length, length-append}
 use Rattle.limits.specs.Limits.{mostVertices}
 use Rattle.walks.specs.Graph.{Arc}
 use Rattle.book.specs.Book.{RuleSet, Book, All, IsArc, IsPath, allPaths}
-use Rattle.book.specs.BookLaws.{all-map}
+use Rattle.book.specs.BookLaws.{all-map, all-append, all-left, all-right}
 use Rattle.book_bytes.specs.Bytes.{AreBytes, countField, arcField, flagsField, pathField, setFields, bytesOf, Keeps}
-use Rattle.book_bytes.specs.Reads.{all-left, all-right}
 
 -- ---- every byte is below 256
-all-append : {A : Type 0} (P : A → Type 0) (xs ys : List A) → All P xs → All P ys → All P (xs ++ ys)
-all-append P [] ys h k = k
-all-append P (x ∷ xs) ys h k = (h .0, all-append P xs ys (h .1) k)
-
 module _ {A : Type 0} (P : A → Type 0) (f : A → List ℕ) (each : (x : A) → P x → AreBytes (f x)) where
   flat-bytes : (xs : List A) → All P xs → AreBytes (flatMap f xs)
   unfolding flatMap

@@ -18,7 +18,7 @@ use Rattle.book.specs.declared.Refusal.{Refusal}
 use Rattle.book.specs.declared.Refusal.the-variants.{Truncated, Tag, Length, Value, Repeated, TooMany}
 use Rattle.book.specs.Refusal.{firstFailure}
 use Rattle.book.specs.Book.{Book, WellFormed, blank, given, properArc, simple, allPaths}
-use Rattle.book.specs.BookLaws.{blank-well-formed, field-passed, field-extends, field-well-formed}
+use Rattle.book.specs.BookLaws.{blank-well-formed, field-passed, field-extends, field-well-formed, and-then-accepted}
 use Rattle.book.specs.Reading.{Reading, accepted, refused, reading, fields, field, andThen, outcome, taken, content, extended, addPath, follows, fits, kindOf, kindAt, lengthAt, endAt, arcAt, flagsAt, pathAt}
 use Rattle.book_bytes.specs.Bytes.{longestBook}
 use Rattle.book_bytes.specs.BookSize.{Sized, size-bound, next-sized}
@@ -179,14 +179,11 @@ fields-short (suc turns) s b at b′ w z h e =
     go (ltb at (length s)) refl e
     (λ b₁ here. fields-short turns s b₁ (endAt s at) b′ (field-well-formed s b at b₁ w here) (sized-after s b at b₁ w z here) (omega arith))
   where
-    later : (r : Reading) → field s b at ≡ r → ((b₁ : Book) → field s b at ≡ accepted b₁ → fields turns s b₁ (endAt s at) ≡ accepted b′ → length s ≤ longestBook)
-        → andThen r (rest turns s at) ≡ accepted b′ → length s ≤ longestBook
-    later (accepted b₁) is step q = step b₁ is q
-    later (refused x) is step q = absurd (let no : _≡_ {A = ℕ} 0 1 = cc in omega arith)
-
     go : (x : Bool) → ltb at (length s) ≡ x → cond x (andThen (field s b at) (rest turns s at)) (accepted b) ≡ accepted b′
         → ((b₁ : Book) → field s b at ≡ accepted b₁ → fields turns s b₁ (endAt s at) ≡ accepted b′ → length s ≤ longestBook) → length s ≤ longestBook
-    go true x q step = later (field s b at) refl step q
+    go true x q step =
+        let (b₁, here, later) = and-then-accepted (field s b at) (rest turns s at) b′ q in
+        step b₁ here later
     go false x q step = omega (arith, ltb-false at (length s) x, z .within, size-bound b w)
 
 pub longest-book : (s : List ℕ) (b : Book) → reading s ≡ accepted b → length s ≤ longestBook

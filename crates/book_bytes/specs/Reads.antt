@@ -1,19 +1,19 @@
 -- Laws: the bytes of a book that keeps the rules are read, field after field, as that book.
 use Prim.Native.Nat.{ℕ, zero, suc, _+_, _≤_}
 use mathlib.Core.Path.{_≡_, refl, sym, ap, ap₂, subst, _∙_}
-use mathlib.Core.Bool.{true, false, cond, not, _&&_, _||_}
+use mathlib.Core.Bool.{true, cond, not, _&&_}
 use mathlib.Core.List.{List, [], _∷_, _++_, append-assoc, append-nil, flatMap}
 use native.Mathlib.Omega.{arith}
 use borrow.Author.Tests.{lt-ltb, le-ltb, le-leb, ne-eqb}
 use lib.Dec.{eqb}
 use lib.ListN.{length, length-append}
 use Rattle.limits.specs.Limits.{mostVertices, mostSets, mostPaths}
-use Rattle.lists.specs.Test.{and-true, or-false}
+use Rattle.lists.specs.Test.{and-true}
 use Rattle.walks.specs.Graph.{Arc}
 use Rattle.book.specs.declared.Kind.{Kind}
 use Rattle.book.specs.declared.Kind.the-variants.{VertexCount, Path}
-use Rattle.book.specs.Book.{RuleSet, Book, blank, All, IsArc, PairsOnce, IsPath, allPaths, given, properArc, pathLength, simple, isPath}
-use Rattle.book.specs.BookLaws.{given-cons, other-pair, IsPath→isPath}
+use Rattle.book.specs.Book.{RuleSet, Book, blank, All, IsArc, PairsOnce, IsPath, allPaths, pathLength, simple, isPath}
+use Rattle.book.specs.BookLaws.{all-left, all-right, arc-passes, not-before, IsPath→isPath}
 use Rattle.book.specs.Reading.{Reading, accepted, endAt, addPath, andThen, field, fields}
 use Rattle.book_bytes.specs.Bytes.{countField, arcField, pathField, setFields, bytesOf, Keeps}
 use Rattle.book_bytes.specs.Field.{Value, written, length-written}
@@ -43,23 +43,6 @@ reads-fields (next {b = b} {x = x} k v t r) front (suc turns) h =
     ∙ ap (λ (a : Reading). andThen a (λ b₁. fields turns s b₁ (endAt s (length front)))) (field-read front x b k v t)
     ∙ ap₂ (λ l e. fields turns l (added k b v) e) (sym (append-assoc front (written k v) x)) (end-read front x b k v)
     ∙ reads-fields r (front ++ written k v) turns (omega (arith, length-append (written k v) x, length-written k v))
-
--- ---- the tests, from the rules
-arc-passes : (n : ℕ) (a : Arc) → IsArc n a → properArc n a ≡ true
-arc-passes n a is =
-    ap₂ _&&_ (ap₂ _&&_ (ap₂ _&&_ (lt-ltb _ _ (is .tail-below)) (lt-ltb _ _ (is .head-below))) (ap not (ne-eqb _ _ (is .different)))) (le-leb _ _ (is .light))
-
--- a pair that is given once is not given before
-given-after : (xs : List Arc) (a : Arc) (ys : List Arc) (t h : ℕ) → given (xs ++ (a ∷ ys)) t h ≡ false → eqb (a .tail) t && eqb (a .head) h ≡ false
-given-after [] a ys t h e = or-false (eqb (a .tail) t && eqb (a .head) h) (given ys t h) (sym (given-cons a ys t h) ∙ e) .0
-given-after (x ∷ xs) a ys t h e =
-    given-after xs a ys t h (or-false (eqb (x .tail) t && eqb (x .head) h) (given (xs ++ (a ∷ ys)) t h) (sym (given-cons x (xs ++ (a ∷ ys)) t h) ∙ e) .1)
-
-not-before : (xs : List Arc) (a : Arc) (ys : List Arc) → PairsOnce (xs ++ (a ∷ ys)) → given xs (a .tail) (a .head) ≡ false
-not-before [] a ys once = refl
-not-before (x ∷ xs) a ys once =
-    given-cons x xs (a .tail) (a .head)
-    ∙ ap₂ _||_ (other-pair (a .tail) (a .head) (x .tail) (x .head) (given-after xs a ys (x .tail) (x .head) (once .0))) (not-before xs a ys (once .1))
 
 not-none : (n : ℕ) → 1 ≤ n → not (eqb n 0) ≡ true
 not-none n h = ap not (ne-eqb n 0 (omega arith))
@@ -105,15 +88,6 @@ paths-append : (ss rs : List RuleSet) → allPaths (ss ++ rs) ≡ allPaths ss ++
 unfolding allPaths
 paths-append [] rs = refl
 paths-append (s ∷ ss) rs = ap (λ l. s .paths ++ l) (paths-append ss rs) ∙ sym (append-assoc (s .paths) (allPaths ss) (allPaths rs))
-
-module _ {A : Type 0} (P : A → Type 0) where
-  pub all-left : (xs ys : List A) → All P (xs ++ ys) → All P xs
-  all-left [] ys h = tt
-  all-left (x ∷ xs) ys h = (h .0, all-left xs ys (h .1))
-
-  pub all-right : (xs ys : List A) → All P (xs ++ ys) → All P ys
-  all-right [] ys h = h
-  all-right (x ∷ xs) ys h = all-right xs ys (h .1)
 
 module _ (n : ℕ) (arcs : List Arc) (low : 1 ≤ n) where
   paths-read : (f : ℕ) (done : List RuleSet) (ps todo : List (List ℕ)) → All (IsPath n) todo → length (allPaths done) + length ps + length todo ≤ mostPaths

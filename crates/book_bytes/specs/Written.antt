@@ -14,8 +14,8 @@ use Rattle.walks.specs.Graph.{Arc}
 use Rattle.book.specs.declared.Kind.{Kind}
 use Rattle.book.specs.declared.Kind.the-variants.{VertexCount, Path, Unknown}
 use Rattle.book.specs.Book.{RuleSet, Book, blank, All, IsArc, WellFormed}
-use Rattle.book.specs.BookLaws.{Passed, all-snoc, not-zero, field-passed, field-extends, field-well-formed, blank-well-formed, reading-is-book, enough-turns}
-use Rattle.book.specs.Reading.{Reading, accepted, refused, kindAt, lengthAt, endAt, follows, fits, proper, extended, addPath, andThen, field, fields, reading}
+use Rattle.book.specs.BookLaws.{Passed, all-snoc, not-zero, field-passed, field-extends, field-well-formed, blank-well-formed, reading-is-book, enough-turns, and-then-accepted}
+use Rattle.book.specs.Reading.{accepted, kindAt, lengthAt, endAt, follows, fits, proper, extended, addPath, field, fields, reading}
 use Rattle.book_bytes.specs.Bytes.{AreBytes, countField, arcField, flagsField, pathField, setFields, bytesOf, Keeps}
 use Rattle.book_bytes.specs.Field.{Value, valueAt, written, kind-moved, length-moved, value-moved, byte-below, field-again}
 use Rattle.book_bytes.specs.Adding.{added, properValue, extended-added, proper-value}
@@ -184,27 +184,20 @@ module _ (b′ : Book) where
   unfolding fields
   one-more turns rest front [] b h bytes w z e = at-end (suc turns) front b z e
   one-more turns rest front (x ∷ t) b h bytes w z e =
-      go (field s b (length front)) refl (rw (lt-ltb (length front) (length s) (omega (arith, length-append front (x ∷ t)))) at e)
-    where
-      s : List ℕ
-      s = front ++ (x ∷ t)
-
-      n : ℕ
-      n = endAt (x ∷ t) 0
-
-      go : (r : Reading) → field s b (length front) ≡ r → andThen r (λ b₁. fields turns s b₁ (endAt s (length front))) ≡ accepted b′ → SoFar b′ s
-      go (accepted b₁) here q =
-          let held = field-held front (x ∷ t) bytes b b₁ w z here in
-          let front₁ : List ℕ = front ++ take n (x ∷ t) in
-          let joined : front₁ ++ drop n (x ∷ t) ≡ s = append-assoc front (take n (x ∷ t)) (drop n (x ∷ t)) ∙ ap (λ l. front ++ l) (take-append-drop n (x ∷ t)) in
-          let end : endAt s (length front) ≡ length front₁ =
-          omega (arith, length-moved front (x ∷ t), length-append front (take n (x ∷ t)), length-take-le n (x ∷ t) held) in
-          subst (SoFar b′) joined
-          (rest front₁ (drop n (x ∷ t)) b₁ (omega (arith, length-drop n (x ∷ t), held)) (all-drop (λ y. y < 256) n (x ∷ t) bytes)
-          (field-well-formed s b (length front) b₁ w here)
-          (field-so-far front (x ∷ t) bytes b b₁ w z here)
-          (sym (ap₂ (λ l j. fields turns l b₁ j) (sym joined) end) ∙ q))
-      go (refused r) here q = absurd (let no : _≡_ {A = ℕ} 0 1 = cc in omega arith)
+      let s : List ℕ = front ++ (x ∷ t) in
+      let n : ℕ = endAt (x ∷ t) 0 in
+      let (b₁, here, q) =
+      and-then-accepted (field s b (length front)) _ b′ (rw (lt-ltb (length front) (length s) (omega (arith, length-append front (x ∷ t)))) at e) in
+      let held = field-held front (x ∷ t) bytes b b₁ w z here in
+      let front₁ : List ℕ = front ++ take n (x ∷ t) in
+      let joined : front₁ ++ drop n (x ∷ t) ≡ s = append-assoc front (take n (x ∷ t)) (drop n (x ∷ t)) ∙ ap (λ l. front ++ l) (take-append-drop n (x ∷ t)) in
+      let end : endAt s (length front) ≡ length front₁ =
+      omega (arith, length-moved front (x ∷ t), length-append front (take n (x ∷ t)), length-take-le n (x ∷ t) held) in
+      subst (SoFar b′) joined
+      (rest front₁ (drop n (x ∷ t)) b₁ (omega (arith, length-drop n (x ∷ t), held)) (all-drop (λ y. y < 256) n (x ∷ t) bytes)
+      (field-well-formed s b (length front) b₁ w here)
+      (field-so-far front (x ∷ t) bytes b b₁ w z here)
+      (sym (ap₂ (λ l j. fields turns l b₁ j) (sym joined) end) ∙ q))
 
   fields-so-far : (turns : ℕ) → Kept turns
   fields-so-far zero front [] b h bytes w z e = at-end zero front b z e

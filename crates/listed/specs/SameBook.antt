@@ -1,18 +1,17 @@
 -- The plan from a list is the plan of the book with the same arcs, in any order (01: the plan is that of the book with the same changeovers).
 use Prim.Native.Nat.{ℕ, suc}
-use mathlib.Core.Path.{_≡_, refl, sym, ap, ap₂, subst, _∙_}
-use mathlib.Core.Bool.{true, false, cond, not, _&&_, _||_}
+use mathlib.Core.Path.{_≡_, sym, ap, ap₂, subst, _∙_}
+use mathlib.Core.Bool.{true, false, cond, not, _&&_}
 use mathlib.Core.List.{List, [], _∷_, _++_, map, append-assoc, append-nil, List·Permᴰ}
 use mathlib.Core.Option.{none, some}
-use borrow.Author.Tests.{le-leb, lt-ltb, ne-eqb}
-use lib.Dec.{eqb, leb}
+use borrow.Author.Tests.{le-leb}
+use lib.Dec.{leb}
 use Rattle.limits.specs.Limits.{mostVertices}
-use Rattle.lists.specs.Test.{or-false}
 use Rattle.walks.specs.Graph.{Arc}
 use Rattle.book.specs.declared.Refusal.the-variants.{Value, Repeated}
 use Rattle.book.specs.Refusal.{refusalBy}
-use Rattle.book.specs.Book.{Book, All, IsArc, PairsOnce, given, graph, properArc}
-use Rattle.book.specs.BookLaws.{reading-is-book, given-cons, other-pair}
+use Rattle.book.specs.Book.{Book, All, IsArc, PairsOnce, given, graph}
+use Rattle.book.specs.BookLaws.{reading-is-book, arc-passes, not-before}
 use Rattle.book.specs.Reading.{accepted, andThen, outcome, reading, addArc, withArc}
 use Rattle.rules.specs.Area.{spelled}
 use Rattle.planner.specs.declared.Outcome.{Outcome}
@@ -25,23 +24,6 @@ use Rattle.listed.specs.Reordered.{all-reordered, pairs-reordered, graph
 -- the arcs of a list
 abbrev pub arcsOf : List Item → List Arc
 arcsOf xs = map arcOf xs
-
--- what is an arc passes its test
-arc-passes : (n : ℕ) (a : Arc) → IsArc n a → properArc n a ≡ true
-arc-passes n a is =
-    ap₂ _&&_ (ap₂ _&&_ (ap₂ _&&_ (lt-ltb _ _ (is .tail-below)) (lt-ltb _ _ (is .head-below))) (ap not (ne-eqb _ _ (is .different)))) (le-leb _ _ (is .light))
-
--- a pair that is given once is not given before
-given-after : (xs : List Arc) (a : Arc) (ys : List Arc) (t h : ℕ) → given (xs ++ (a ∷ ys)) t h ≡ false → eqb (a .tail) t && eqb (a .head) h ≡ false
-given-after [] a ys t h e = or-false (eqb (a .tail) t && eqb (a .head) h) (given ys t h) (sym (given-cons a ys t h) ∙ e) .0
-given-after (x ∷ xs) a ys t h e =
-    given-after xs a ys t h (or-false (eqb (x .tail) t && eqb (x .head) h) (given (xs ++ (a ∷ ys)) t h) (sym (given-cons x (xs ++ (a ∷ ys)) t h) ∙ e) .1)
-
-not-before : (xs : List Arc) (a : Arc) (ys : List Arc) → PairsOnce (xs ++ (a ∷ ys)) → given xs (a .tail) (a .head) ≡ false
-not-before [] a ys once = refl
-not-before (x ∷ xs) a ys once =
-    given-cons x xs (a .tail) (a .head)
-    ∙ ap₂ _||_ (other-pair (a .tail) (a .head) (x .tail) (x .head) (given-after xs a ys (x .tail) (x .head) (once .0))) (not-before xs a ys (once .1))
 
 -- the book with some more arcs
 abbrev more : Book → List Arc → Book

@@ -1,36 +1,24 @@
 -- Laws of the forbidden paths that are known: how many, of what kind, and which.
 use Prim.Native.Nat.{ℕ, _≤_}
 use mathlib.Core.Bool.{Bool, true, false, cond}
-use mathlib.Core.List.{List, [], _∷_, _++_}
+use mathlib.Core.List.{List, [], _∷_}
 use mathlib.Core.Path.{_≡_, refl}
 use native.Mathlib.Omega.{arith}
 use lib.ListN.{length, length-append}
 use Rattle.book.specs.Book.{RuleSet, Book, All, IsPath, WellFormed, allPaths}
-use Rattle.book.specs.BookLaws.{all-map}
+use Rattle.book.specs.BookLaws.{all-map, all-append, all-left, all-right}
 use Rattle.rules.specs.Binding.{applies, applied, known, once}
 use Rattle.book.specs.EntryLaws.{Short}
 use Rattle.rules.specs.Sets.{distinct-once, distinct-length, distinct-all}
 
 module _ (P : List ℕ → Type 0) where
-  all-left : (F G : List (List ℕ)) → All P (F ++ G) → All P F
-  all-left [] G h = tt
-  all-left (p ∷ F) G h = (h .0, all-left F G (h .1))
-
-  all-right : (F G : List (List ℕ)) → All P (F ++ G) → All P G
-  all-right [] G h = h
-  all-right (p ∷ F) G h = all-right F G (h .1)
-
-  all-append : (F G : List (List ℕ)) → All P F → All P G → All P (F ++ G)
-  all-append [] G h k = k
-  all-append (p ∷ F) G h k = (h .0, all-append F G (h .1) k)
-
   pub bound-all : (flags : ℕ) (ss : List RuleSet) → All P (allPaths ss) → All P (applied flags ss)
   unfolding allPaths applied
   bound-all flags [] h = tt
-  bound-all flags (s ∷ ss) h = all-append (cond (applies flags s) (s .paths) []) (applied flags ss) (own (applies flags s)) (bound-all flags ss (all-right (s .paths) (allPaths ss) h))
+  bound-all flags (s ∷ ss) h = all-append P (cond (applies flags s) (s .paths) []) (applied flags ss) (own (applies flags s)) (bound-all flags ss (all-right P (s .paths) (allPaths ss) h))
     where
       own : (x : Bool) → All P (cond x (s .paths) [])
-      own true = all-left (s .paths) (allPaths ss) h
+      own true = all-left P (s .paths) (allPaths ss) h
       own false = tt
 
   pub known-all : (flags : ℕ) (ss : List RuleSet) → All P (allPaths ss) → All P (known flags ss)
