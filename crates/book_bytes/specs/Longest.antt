@@ -30,7 +30,7 @@ vertices = upFrom 0 mostVertices
 abbrev pub arcsFrom : ℕ → List Arc
 arcsFrom u = flatMap (λ v. cond (eqb u v) [] (record { tail = u; head = v; weight = 0 } ∷ [])) vertices
 
-abbrev pub fullBook : Book
+unfoldable pub fullBook : Book
 fullBook = record {
   count = mostVertices;
   arcs = flatMap arcsFrom vertices;
@@ -75,22 +75,23 @@ rising-once n (a ∷ xs) e =
     (rising-given (suc (number a)) xs rest (a .tail) (a .head) (omega arith), rising-once (suc (number a)) xs rest)
 
 arcs-rise : rising 0 (fullBook .arcs) ≡ true
-unfolding flatMap rising
+unfolding fullBook flatMap rising
 arcs-rise = refl
 
 arcs-all-proper : all (properArc mostVertices) (fullBook .arcs) ≡ true
-unfolding flatMap
+unfolding fullBook flatMap
 arcs-all-proper = refl
 
 paths-all-proper : all (isPath mostVertices) (allPaths (fullBook .sets)) ≡ true
-unfolding allPaths isPath simple names
+unfolding fullBook allPaths isPath simple names
 paths-all-proper = refl
 
 paths-few : leb (length (allPaths (fullBook .sets))) 256 ≡ true
-unfolding allPaths
+unfolding fullBook allPaths
 paths-few = refl
 
 pub full-keeps : Keeps fullBook
+unfolding fullBook
 full-keeps = record {
   some-vertex = omega arith;
   few-vertices = omega arith;
@@ -104,7 +105,7 @@ full-keeps = record {
 
 -- Its bytes are read, and are as many as any book's that is read.
 pub full-length : length (bytesOf fullBook) ≡ longestBook
-unfolding flatMap allPaths
+unfolding fullBook flatMap allPaths
 full-length = length-bytes fullBook
 
 pub longest-attained : (s : List ℕ) × AreBytes s × (reading s ≡ accepted fullBook) × (length s ≡ longestBook)
