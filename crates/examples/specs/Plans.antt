@@ -11,37 +11,51 @@ use Rattle.walks.specs.Best.{None, None·mono}
 use Rattle.book.specs.Book.{Book, All, IsPath, WellFormed, graph}
 use Rattle.book.specs.BookLaws.{reading-is-book}
 use Rattle.examples.specs.Books.{bytesA, bookA, book-A, bytesWays, bookWays, book-ways, bytesShortcut, bookShortcut, book-shortcut}
-use Rattle.book.specs.Reading.{accepted, reading, bookIn}
+use Rattle.book.specs.Reading.{accepted, reading, refusalOf, bookIn}
+use Rattle.book.specs.Refusal.{refusalBy}
 use Rattle.book.specs.RefusalLaws.{hold→none}
 use Rattle.examples.specs.Walks.{Plan, marks-0, marks-1, marks-2, marks-3, back, stay, lower-vertex, fewer-hops}
 use Rattle.rules.specs.Binding.{covers, applied, known}
 use Rattle.rules.specs.BindingLaws.{known-paths}
+use Rattle.rules.specs.Area.{spelled, valid}
 use Rattle.rules.specs.Operations.{Binding, binding, areaAfter}
 use Rattle.rules.specs.Laws.{bind-accepted}
 use Rattle.planner.specs.declared.Outcome.{Outcome}
 use Rattle.planner.specs.declared.Outcome.the-variants.{Walk, Nothing}
-use Rattle.limits.specs.Limits.{longest}
-use Rattle.planner.specs.Planning.{Planned, Planning}
-use Rattle.planner.specs.RuleSets.{left-tests, PlannedIn, planned-known, planned-same}
+use Rattle.limits.specs.Limits.{areaSize, longest}
+use Rattle.planner.specs.Planning.{planTests, Planned, PlanningOf, Planning}
+use Rattle.planner.specs.RuleSets.{planned-same}
+
+-- r and `new` meet what is said of an answer and its area, and nothing else does.
+pub record Only (P : Outcome → List ℕ → Type 0) (r : Outcome) (new : List ℕ) : Type 0 where
+  pub meets : P r new
+  pub alone : (r′ : Outcome) (new′ : List ℕ) → P r′ new′ → (r′ ≡ r) × (new′ ≡ new)
 
 -- For every area that was bound for a batch and every area of 1,600 bytes or more for the walk, planning answers r, with w in the area's front.
 abbrev pub Gives : List ℕ → ℕ → ℕ → ℕ → Outcome → List ℕ → Type 0
 Gives s flags start end r w =
-    (area : List ℕ) (F : List (List ℕ)) → binding s flags area ≡ Binding.bound F → (old : List ℕ) → longest ≤ length old → (r′ : Outcome) (new : List ℕ)
-    → Planning s (areaAfter (binding s flags area) area) (length F) start end old r′ new → (r′ ≡ r) × (new ≡ w ++ drop (length w) old)
+    (area : List ℕ) (F : List (List ℕ)) → binding s flags area ≡ Binding.bound F → (old : List ℕ) → longest ≤ length old
+    → Only (Planning s (areaAfter (binding s flags area) area) (length F) start end old) r (w ++ drop (length w) old)
 
 module _ (s : List ℕ) (b : Book) (read : reading s ≡ accepted b) (flags start end : ℕ) (start-below : ltb start (b .count) ≡ true) (end-below : ltb end (b .count) ≡ true) where
   -- the answer that the definitions have is the one that is given
   given : (r : Outcome) (w : List ℕ) → ((old : List ℕ) → Planned none (graph b) (known flags (b .sets)) start end old r (w ++ drop (length w) old)) → Gives s flags start end r w
-  given r w have area F is old long r′ new p =
+  given r w have area F is old long =
       let f = bind-accepted s flags area F is in
+      let after = areaAfter (binding s flags area) area in
+      let new = w ++ drop (length w) old in
       let b-is : f .book ≡ b = ap bookIn (sym (f .read) ∙ read) in
-      let q : PlannedIn flags start end old (b .count) (b .arcs) (known flags (b .sets)) r′ new =
-      subst (λ (x : Book). PlannedIn flags start end old (x .count) (x .arcs) (known flags (x .sets)) r′ new) b-is (planned-known flags start end old s area F f r′ new p) in
-      let unrefused = hold→none (left-tests flags start end old (b .count)) (le-leb longest (length old) long, (start-below, (end-below, tt))) in
-      planned-same none (graph b) (known flags (b .sets)) (known flags (b .sets)) (λ _ m. m) (λ _ m. m) start end old r′ r new (w ++ drop (length w) old)
-      (subst (λ x. Planned x (graph b) (known flags (b .sets)) start end old r′ new) unrefused q)
-      (have old)
+      let valid-b : valid (b .count) after (length F) ≡ true = subst (λ (x : Book). valid (x .count) after (length F) ≡ true) b-is (f .validity) in
+      let unrefused : refusalBy (planTests after (length F) start end old b) ≡ none =
+      hold→none (planTests after (length F) start end old b) (le-leb areaSize (length after) (f .long), (le-leb longest (length old) long, (start-below, (end-below, (valid-b, tt))))) in
+      let spells : spelled (length F) after ≡ known flags (b .sets) = f .spells ∙ f .paths ∙ ap (λ (x : Book). known flags (x .sets)) b-is in
+      let meets : Planning s after (length F) start end old r new =
+      subst (λ x. PlanningOf x after (length F) start end old r new) (sym read)
+      (subst (λ o. Planned o (graph b) (spelled (length F) after) start end old r new) (sym unrefused)
+      (subst (λ G. Planned none (graph b) G start end old r new) (sym spells) (have old))) in
+      let o = refusalOf (reading s) (planTests after (length F) start end old) in
+      let G = spelled (length F) after in
+      record { meets = meets; alone = λ r′ new′ p. planned-same o (graph (bookIn (reading s))) G G (λ _ m. m) (λ _ m. m) start end old r′ r new′ new p meets }
 
   walk-given : (w : List ℕ) (n k : ℕ) → Plan (graph b) (known flags (b .sets)) start end w n k → Gives s flags start end (Walk n k) w
   walk-given w n k p = given (Walk n k) w (λ old. record { walk = w; best = p .best; weight-is = sym (p .weighs); hops-is = sym (p .takes); area-is = refl })

@@ -11,11 +11,12 @@ use Rattle.answer.specs.Answer.{AnsweredOf, Answered}
 use Rattle.answer.specs.AnswerLaws.{Answered-unique}
 
 -- The input s gets this text and no other.
-abbrev Prints : List ℕ → List ℕ → Type 0
-Prints s text = (x : List ℕ) → Answered s x → x ≡ text
+pub record Prints (s text : List ℕ) : Type 0 where
+  pub answered : Answered s text
+  pub alone : (x : List ℕ) → Answered s x → x ≡ text
 
 prints : (s text : List ℕ) → Answered s text → Prints s text
-prints s text have x p = Answered-unique s x text p have
+prints s text have = record { answered = have; alone = λ x p. Answered-unique s x text p have }
 
 -- `LITRES 450 CHANGES 5`, `0 1 2 1 2 3`
 abbrev listing : List ℕ

@@ -27,7 +27,7 @@ use Rattle.rules.specs.Operations.{Binding, outcome, bindTests, bindingOf, bind
 use Rattle.planner.specs.declared.Outcome.{Outcome}
 use Rattle.planner.specs.declared.Outcome.the-variants.{Walk, Nothing}
 use Rattle.planner.specs.Planning.{Planning}
-use Rattle.examples.specs.Plans.{Gives, sums as planning}
+use Rattle.examples.specs.Plans.{Only, Gives, sums as planning}
 use Rattle.trials.specs.declared.Begun.{Begun}
 use Rattle.trials.specs.declared.Reported.{Reported}
 use Rattle.trial_rules.specs.Trials.{Report, failed, State, pathArea, trials, beginTests, oracleTests, Valid, isForbiddenSet, isRecord, isValid, beginRefusal, refusal, Plan, Planner, holding, unless, step, after, run}
@@ -44,13 +44,12 @@ use Rattle.trials.specs.OperationLaws.{same-step}
 abbrev pub ForLent : (List ℕ → List ℕ → Type 0) → Type 0
 ForLent P = (paths walk : List ℕ) → areaSize ≤ length paths → longest ≤ length walk → P paths walk
 
--- Planning: the book binds, and planning under the known runs F answers r (`Walk litres changeovers`, or `Nothing`), with w in the front
--- of the line-up area and the bytes after it as lent.
+-- Planning: the book binds, and planning under the known runs F answers r (`Walk litres changeovers`, or `Nothing`) and nothing else, with
+-- w in the front of the line-up area and the bytes after it as lent.
 abbrev pub Plans : List ℕ → ℕ → ℕ → ℕ → Outcome → List ℕ → Type 0
 Plans s flags start end r w =
     ForLent (λ paths walk. (F : List (List ℕ)) × (binding s flags paths ≡ Binding.bound F)
-    × ((r′ : Outcome) (new : List ℕ) → Planning s (areaAfter (binding s flags paths) paths) (length F) start end walk r′ new
-    → (r′ ≡ r) × (new ≡ w ++ drop (length w) walk)))
+    × Only (Planning s (areaAfter (binding s flags paths) paths) (length F) start end walk) r (w ++ drop (length w) walk))
 
 -- Trials, on book A from 0 to 3. A state is the record, the known runs and the bytes of both areas, for areas as lent; `leaving` is an
 -- answer with those bytes.
