@@ -1,6 +1,5 @@
--- Demand 3. Meaning: Calls (its words) and Labs (what is claimed). Laws: CallLaws, LabLaws (the theorem). Witnesses: labs on book A.
-pub mod Calls
-pub mod Labs
-pub mod CallLaws
-pub mod LabLaws
-pub mod Witnesses
+-- The demands of paper 00, sentence by sentence, over the definitions that the operations' contracts name; and the theorems that give them.
+pub mod Marks
+pub mod Refusals
+pub mod Conditions
+pub mod Answers

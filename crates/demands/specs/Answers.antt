@@ -1,0 +1,190 @@
+-- Demand 1: 'Every book .. that keeps the rules of document 01 is read, and every batch, start grade and end grade within it, with areas of the
+-- sizes set there, gets a line-up or the answer none.' What is answered where nothing is refused.
+use Prim.Native.Nat.{ℕ, suc, _≤_, _<_}
+use mathlib.Core.Path.{_≡_, refl, sym, ap, ap₂, subst, _∙_}
+use mathlib.Core.Bool.{Bool, true, false, cond, not, _&&_}
+use mathlib.Core.List.{List, [], _∷_, _++_}
+use mathlib.Core.Logic.{_↔_, _⊎_, inl, inr}
+use mathlib.Core.Option.{Option, none, some, Option·none-ne-some}
+use native.Mathlib.Omega.{arith}
+use borrow.Author.Tests.{leb-true}
+use lib.Dec.{leb}
+use lib.ListN.{length, drop, length-map}
+use Rattle.limits.specs.Limits.{mostVertices, areaSize, longest}
+use Rattle.lists.specs.Test.{and-true}
+use Rattle.walks.specs.Graph.{Graph, Arc}
+use Rattle.walks.specs.Walk.{Walk, weightOf, hops}
+use Rattle.states.specs.Chosen.{Decided, chosen, chosen-is}
+use Rattle.book.specs.declared.Answer.{Answer}
+use Rattle.book.specs.declared.Refusal.{Refusal}
+use Rattle.book.specs.Refusal.{firstFailure, refusalBy}
+use Rattle.book.specs.Book.{Book, counts, graph, given, properArc}
+use Rattle.book.specs.RefusalLaws.{none→hold}
+use Rattle.book.specs.BookLaws.{reading-is-book}
+use Rattle.book.specs.Reading.{Reading, accepted, refused, reading, readAs, andThen, outcome, withArc, arcTests, addArc, refusalOf, bookIn}
+use Rattle.rules.specs.declared.Bound.{Bound}
+use Rattle.rules.specs.Binding.{known}
+use Rattle.rules.specs.Area.{blocks, spelled}
+use Rattle.rules.specs.AreaLaws.{length-blocks}
+use Rattle.rules.specs.ValidLaws.{Valid, valid→Valid}
+use Rattle.rules.specs.Operations.{Binding, bindTests, boundAs, bindingOf, binding, areaAfter}
+use Rattle.rules.specs.Operations
+use Rattle.rules.specs.Laws.{Filled, bind-accepted}
+use Rattle.walk_check.specs.Laws.{sizes}
+use Rattle.walk_check.specs.Checking.{verdict, occurrence, checkTests, checking}
+use Rattle.planner.specs.declared.Outcome.{Outcome}
+use Rattle.planner.specs.Planning.{planTests, Planned, PlanningOf, Planning}
+use Rattle.listed.specs.declared.Arc.{Arc as Item}
+use Rattle.listed.specs.Listing.{arcOf, counting, counted, items, listing}
+use Rattle.listed.specs.SameBook.{arcsOf, listed-book}
+use Rattle.trial_record.specs.declared.Record.{Record}
+use Rattle.trial_rules.specs.Trials.{State, beginTests, run}
+use Rattle.trials.specs.declared.Begun.{Begun}
+use Rattle.trials.specs.Operations.{begunAs, firstState, beginning, beginningOf}
+use Rattle.series.specs.Reports.{reportsOf}
+use Rattle.series.specs.Making.{replaying}
+use Rattle.demands.specs.Refusals.{ClearOrOccurs, check-finds, beginRefusal, zero-one}
+use Rattle.demands.specs.Conditions.{Fits, BindAsks, CheckAsks, PlanAsks, BeginAsks, Unrefused, unrefused}
+
+-- ---- the statement
+abbrev pub WalkOrNone : Outcome → Type 0
+WalkOrNone r = ((weight : ℕ) × (hops′ : ℕ) × (r ≡ Outcome.Walk weight hops′)) ⊎ (r ≡ Outcome.Nothing)
+
+-- P says which answers planning gives and what the line-up area holds then: there is such an answer, and each is a walk or none.
+pub record GetsPlan (P : Outcome → List ℕ → Type 0) : Type 0 where
+  pub answered : (r : Outcome) × (new : List ℕ) × P r new
+  pub each : (r : Outcome) (new : List ℕ) → P r new → WalkOrNone r
+
+-- A book b, a batch with these flags, start and end; the runs area and the line-up area as lent.
+pub record Answers (s : List ℕ) (b : Book) (flags start end : ℕ) (paths walk : List ℕ) : Type 0 where
+  -- The book is read: the counts of grades, changeovers, sheets and runs are answered.
+  pub read : readAs (reading s) ≡ Answer.Read (counts b)
+  -- Binding answers the count of known runs.
+  pub bound : boundAs (binding s flags paths) ≡ Bound.Known (length (known flags (b .sets)))
+  -- Planning under what binding left answers a line-up or none ...
+  pub planned : GetsPlan (Planning s (areaAfter (binding s flags paths) paths) (length (known flags (b .sets))) start end walk)
+  -- ... and so does planning from the book's changeovers as a list.
+  pub planned-list : (n : ℕ) (xs : List Item) → n ≡ b .count → arcsOf xs ≡ b .arcs
+      → GetsPlan (PlanningOf (listing n xs) (areaAfter (binding s flags paths) paths) (length (known flags (b .sets))) start end walk)
+  -- The check of a line-up under what binding left answers that it is clear, or where a run stands.
+  pub checked : (w : List ℕ) → length w ≤ longest → Walk (graph b) w
+      → ClearOrOccurs (checking s (areaAfter (binding s flags paths) paths) (length (known flags (b .sets))) w)
+  -- Begin answers a record, and so does begin with any list of reports.
+  pub begun : (r : Record) × (beginning s flags start end paths walk .answer ≡ Begun.Record r)
+  pub replayed : (reports : List ℕ) → (r : Record) × (replaying s flags start end reports paths walk .answer ≡ Begun.Record r)
+  -- Planning and the check answer under every valid runs area, not only under what binding left.
+  pub planned-under : (count : ℕ) → Valid (b .count) paths count → GetsPlan (Planning s paths count start end walk)
+  pub checked-under : (count : ℕ) → Valid (b .count) paths count → (w : List ℕ) → length w ≤ longest → Walk (graph b) w → ClearOrOccurs (checking s paths count w)
+
+-- ---- planning
+-- Where nothing is refused, the best walk or its absence is an answer, and there is no other kind.
+module _ (g : Graph) (F : List (List ℕ)) (start end : ℕ) (old : List ℕ) where
+  pub unrefused-answer : (r : Outcome) (new : List ℕ) → Planned none g F start end old r new → WalkOrNone r
+  unrefused-answer (Outcome.Walk weight hops′) new p = inl (weight, hops′, refl)
+  unrefused-answer Outcome.Nothing new p = inr refl
+  unrefused-answer (Outcome.Refused x) new p = absurd p
+
+  an-answer : (o : Option (List ℕ)) → Decided g F start end o → (r : Outcome) × (new : List ℕ) × Planned none g F start end old r new
+  an-answer none n = (Outcome.Nothing, old, (n, refl))
+  an-answer (some w) (best, short) =
+      (Outcome.Walk (weightOf g w) (hops w), w ++ drop (length w) old, record { walk = w; best = best; weight-is = refl; hops-is = refl; area-is = refl })
+
+plan-gets : (x : Reading) (paths : List ℕ) (count start end : ℕ) (walk : List ℕ) (b : Book) → x ≡ accepted b → b .count ≤ mostVertices → PlanAsks paths count start end walk b
+    → GetsPlan (PlanningOf x paths count start end walk)
+plan-gets x paths count start end walk b read few h =
+    let none-refused : refusalOf x (planTests paths count start end walk) ≡ none = unrefused x .plan paths count start end walk .1 (record { book = b; read = read; asked = h }) in
+    let F = spelled count paths in
+    let size : length F ≡ count = length-map (blocks count paths) _ ∙ length-blocks count paths in
+    let g = graph (bookIn x) in
+    let few-in : g .count ≤ mostVertices = subst (λ y. bookIn y .count ≤ mostVertices) (sym read) few in
+    let decided = chosen-is g F start end few-in (omega (arith, size, h .runs .few)) (λ r m. sizes (b .count) F (h .runs .paths) r m .1) in
+    let (r, new, p) = an-answer g F start end walk (chosen g F start end) decided in
+    record {
+      answered = (r, new, subst (λ o. Planned o g F start end walk r new) (sym none-refused) p);
+      each = λ r new p. unrefused-answer g F start end walk r new (subst (λ o. Planned o g F start end walk r new) none-refused p);
+    }
+
+-- ---- a list that is a book has the count that it was given
+outcome-accepted : (o : Option Refusal) (b c : Book) → outcome o b ≡ accepted c → (o ≡ none) × (c .count ≡ b .count)
+outcome-accepted none b c e = (refl, ap (λ x. bookIn x .count) (sym e))
+outcome-accepted (some x) b c e = zero-one (cc)
+
+then-accepted : (x : Reading) (f : Book → Reading) (c : Book) → andThen x f ≡ accepted c → (b : Book) × (x ≡ accepted b) × (f b ≡ accepted c)
+then-accepted (accepted b) f c e = (b, refl, e)
+then-accepted (refused r) f c e = zero-one (cc)
+
+items-count : (i : ℕ) (xs : List Item) (b c : Book) → items i xs b ≡ accepted c → c .count ≡ b .count
+unfolding items
+items-count i [] b c e = ap (λ x. bookIn x .count) (sym e)
+items-count i (a ∷ xs) b c e =
+    let (b′, is, rest) = then-accepted (withArc b i (arcOf a)) (items (suc i) xs) c e in
+    items-count (suc i) xs b′ c rest ∙ outcome-accepted (firstFailure (arcTests b i (arcOf a))) (addArc b (arcOf a)) b′ is .1
+
+list-count : (n : ℕ) (xs : List Item) (c : Book) → listing n xs ≡ accepted c → (c .count ≡ n) × (n ≤ mostVertices)
+list-count n xs c e =
+    let (b, is, rest) = then-accepted (counted n) (items 0 xs) c e in
+    let (ok, counted-n) = outcome-accepted (firstFailure (counting n)) (record { count = n; arcs = []; sets = [] }) b is in
+    (items-count 0 xs b c rest ∙ counted-n, leb-true n mostVertices (and-true (leb 1 n) (leb n mostVertices) (none→hold (counting n) ok .0) .1))
+
+-- Demand 1, of a list that is a book, under every valid runs area.
+pub list-answers : (n : ℕ) (xs : List Item) (c : Book) → listing n xs ≡ accepted c → (paths : List ℕ) (count start end : ℕ) (walk : List ℕ)
+    → PlanAsks paths count start end walk c → GetsPlan (PlanningOf (listing n xs) paths count start end walk)
+list-answers n xs c read paths count start end walk h =
+    plan-gets (listing n xs) paths count start end walk c read (omega (arith, list-count n xs c read .0, list-count n xs c read .1)) h
+
+-- ---- the other operations
+check-gets : (s area : List ℕ) (count : ℕ) (w : List ℕ) (b : Book) → reading s ≡ accepted b → CheckAsks area count w b → ClearOrOccurs (checking s area count w)
+check-gets s area count w b read h =
+    let none-refused : refusalOf (reading s) (checkTests area count w) ≡ none = unrefused (reading s) .check area count w .1 (record { book = b; read = read; asked = h }) in
+    subst (λ o. ClearOrOccurs (verdict o (occurrence (spelled count area) w))) (sym none-refused) (check-finds (spelled count area) w (length w) 1)
+
+begun-gets : (o : Option Refusal) (σ : State) (paths walk : List ℕ) → o ≡ none → (r : Record) × (begunAs o σ paths walk .answer ≡ Begun.Record r)
+begun-gets none σ paths walk e = (σ .rec, refl)
+begun-gets (some x) σ paths walk e = absurd (Option·none-ne-some x (sym e))
+
+-- ---- an accepted book
+-- What binding gives is the known paths, and its area is valid.
+module _ (s : List ℕ) (b : Book) (read : reading s ≡ accepted b) (flags : ℕ) (area : List ℕ) where
+  pub binds : areaSize ≤ length area → binding s flags area ≡ Binding.bound (known flags (b .sets))
+  binds fits =
+      let none-refused : refusalBy (bindTests area b) ≡ none = unrefused (accepted b) .bind area .1 (record { book = b; read = refl; asked = record { runs-area = fits } }) in
+      ap (λ x. bindingOf x flags area) read ∙ ap (λ o. Operations.outcome o (known flags (b .sets))) none-refused
+
+  pub binds-valid : areaSize ≤ length area
+      → (areaSize ≤ length (areaAfter (binding s flags area) area)) × Valid (b .count) (areaAfter (binding s flags area) area) (length (known flags (b .sets)))
+  binds-valid fits =
+      let f = bind-accepted s flags area (known flags (b .sets)) (binds fits) in
+      let b-is : f .book ≡ b = ap bookIn (sym (f .read) ∙ read) in
+      (f .long, subst (λ (x : Book). Valid (x .count) (areaAfter (binding s flags area) area) (length (known flags (b .sets)))) b-is (valid→Valid _ _ _ (f .validity)))
+
+-- Demand 1, of an accepted book.
+pub answers : (s : List ℕ) (b : Book) → reading s ≡ accepted b → (flags start end : ℕ) → start < b .count → end < b .count
+    → (paths walk : List ℕ) → areaSize ≤ length paths → longest ≤ length walk → Answers s b flags start end paths walk
+answers s b read flags start end start-below end-below paths walk runs-area walk-area =
+    let few = reading-is-book s b read .well-formed .few-vertices in
+    let after = areaAfter (binding s flags paths) paths in
+    let n = length (known flags (b .sets)) in
+    let (long, runs) = binds-valid s b read flags paths runs-area in
+    let none-refused = unrefused (reading s) .begin start end paths walk .1 (record { book = b; read = read; asked = record { runs-area = runs-area; walk-area = walk-area; start-below = start-below; end-below = end-below } }) in
+    record {
+      read = ap readAs read;
+      bound = ap boundAs (binds s b read flags paths runs-area);
+      planned =
+          plan-gets (reading s) after n start end walk b read few
+          (record { runs-area = long; walk-area = walk-area; start-below = start-below; end-below = end-below; runs = runs });
+      planned-list = λ k xs k-is same.
+          plan-gets (listing k xs) after n start end walk (record { count = b .count; arcs = b .arcs; sets = [] }) (ap (λ m. listing m xs) k-is ∙ listed-book s b read xs same) few
+          (record { runs-area = long; walk-area = walk-area; start-below = start-below; end-below = end-below; runs = runs });
+      checked = λ w short is. check-gets s after n w b read (record { runs-area = long; runs = runs; short = short; walk = is });
+      begun = begun-gets (beginRefusal s start end paths walk) (firstState (bookIn (reading s)) flags start end paths walk) paths walk none-refused;
+      replayed = λ reports. begun-gets (beginRefusal s start end paths walk) (replayed-state reports) paths walk none-refused;
+      planned-under = λ count runs.
+          plan-gets (reading s) paths count start end walk b read few
+          (record { runs-area = runs-area; walk-area = walk-area; start-below = start-below; end-below = end-below; runs = runs });
+      checked-under = λ count runs w short is. check-gets s paths count w b read (record { runs-area = runs-area; runs = runs; short = short; walk = is });
+    }
+  where
+    replayed-state : List ℕ → State
+    replayed-state reports =
+        let g = graph (bookIn (reading s)) in
+        run g (chosen g) (firstState (bookIn (reading s)) flags start end paths walk) (reportsOf reports)
