@@ -3,3 +3,4 @@ pub mod Marks
 pub mod Refusals
 pub mod Conditions
 pub mod Answers
+pub mod Plans

@@ -1,0 +1,224 @@
+-- Demand 2: 'A plan under the known runs that binding gives is a shortest path avoiding forbidden subpaths, as source document 000 section 1.2
+-- defines it.' Said with the sheets of a book; the known runs stand nowhere in it.
+use Prim.Native.Nat.{ℕ, suc, _+_, _≤_, _<_}
+use mathlib.Core.Path.{_≡_, refl, sym, ap, subst, subst₂, _∙_}
+use mathlib.Core.List.{List, [], _∷_, _++_, List·Memᴰ}
+use mathlib.Core.Logic.{_↔_, _⊎_, inl, inr}
+use mathlib.Core.Option.{Option, none, some}
+use native.Mathlib.Omega.{arith}
+use lib.ListN.{length, getD, take, drop, length-append, length-drop}
+use lib.Seq.{take-at, drop-at}
+use Rattle.limits.specs.Limits.{areaSize, longest}
+use Rattle.walks.specs.Graph.{Graph}
+use Rattle.walks.specs.Walk.{Walk, weightOf, hops, hops-length}
+use Rattle.walks.specs.Avoid.{Occurs, Avoids}
+use Rattle.walks.specs.Order.{Tiebreak, Lex, _≼⟨_⟩_, ≼-weight}
+use Rattle.walks.specs.Best.{Feasible, Best, None}
+use Rattle.book.specs.declared.Refusal.{Refusal}
+use Rattle.book.specs.Refusal.{refusalBy}
+use Rattle.book.specs.Book.{RuleSet, Book, WellFormed, graph}
+use Rattle.book.specs.BookLaws.{reading-is-book}
+use Rattle.book.specs.Reading.{accepted, reading, refusalOf, bookIn}
+use Rattle.rules.specs.declared.Bound.{Bound}
+use Rattle.rules.specs.Binding.{applies, known}
+use Rattle.rules.specs.Area.{spelled}
+use Rattle.rules.specs.Operations.{Binding, boundAs, binding, areaAfter}
+use Rattle.rules.specs.Laws.{Applied, known→Applied, Applied→known, bind-accepted}
+use Rattle.routes.specs.Plan.{PlannedWalk}
+use Rattle.planner.specs.declared.Outcome.{Outcome}
+use Rattle.planner.specs.Planning.{planTests, Planned, PlanningOf, Planning}
+use Rattle.planner.specs.RuleSets.{planned-same}
+use Rattle.demands.specs.Marks.{Binds, binds-when, needs-nothing}
+use Rattle.trials.specs.Replanning.{chosen-planner, known-set}
+use Rattle.trial_rules.specs.Plans.{plan-best}
+use Rattle.states.specs.Chosen.{Decided}
+use Rattle.demands.specs.Refusals.{zero-one}
+use Rattle.demands.specs.Conditions.{unrefused}
+use Rattle.demands.specs.Answers.{WalkOrNone, binds, binds-valid, answers}
+
+-- ---- the statement
+-- The line-up w contains no forbidden run of any sheet that binds the batch.
+abbrev pub Clear : Book → ℕ → List ℕ → Type 0
+Clear b flags w = (set : RuleSet) → List·Memᴰ set (b .sets) → Binds set flags → (p : List ℕ) → List·Memᴰ p (set .paths) → Occurs p w → ⊥
+
+-- A line-up from start to end that contains none.
+pub record Allowed (b : Book) (flags start end : ℕ) (w : List ℕ) : Type 0 where
+  pub walk : Walk (graph b) w
+  pub starts : getD w 0 0 ≡ start
+  pub ends : getD w (hops w) 0 ≡ end
+  pub clear : Clear b flags w
+
+-- Where planning answers litres and changeovers, the line-up is the front of the area: a grade more than changeovers.
+abbrev pub lineUp : ℕ → List ℕ → List ℕ
+lineUp changeovers new = take (suc changeovers) new
+
+pub record Shortest (b : Book) (flags start end : ℕ) (old : List ℕ) (litres changeovers : ℕ) (new : List ℕ) : Type 0 where
+  -- 'it contains no forbidden run of any sheet that binds the batch'; and it is a line-up from start to end
+  pub allowed : Allowed b flags start end (lineUp changeovers new)
+  pub litres-are : litres ≡ weightOf (graph b) (lineUp changeovers new)
+  pub changeovers-are : changeovers ≡ hops (lineUp changeovers new)
+  -- 'every other such line-up loses at least as many litres to slop'
+  pub least : (v : List ℕ) → Allowed b flags start end v → litres ≤ weightOf (graph b) v
+  -- 'ties fall as 01 says': of those with the least litres, the fewest changeovers; of these, the one whose first differing grade is the lower
+  pub fewest : (v : List ℕ) → Allowed b flags start end v → weightOf (graph b) v ≡ litres → changeovers ≤ hops v
+  pub lowest : (v : List ℕ) → Allowed b flags start end v → weightOf (graph b) v ≡ litres → hops v ≡ changeovers → Lex (lineUp changeovers new) v
+  -- (all three as 01's one order)
+  pub ordered : (v : List ℕ) → Allowed b flags start end v → lineUp changeovers new ≼⟨ graph b ⟩ v
+  -- 01: 'A plan has at most 1,600 grades, a byte each in the area; bytes after it are untouched.'
+  pub short : length (lineUp changeovers new) ≤ longest
+  pub untouched : drop (suc changeovers) new ≡ drop (suc changeovers) old
+  pub same-length : length new ≡ length old
+
+-- What planning answers and leaves, for a batch with these flags.
+pub record Plans (b : Book) (flags start end : ℕ) (old : List ℕ) (r : Outcome) (new : List ℕ) : Type 0 where
+  -- The answer is a line-up or none, never a refusal.
+  pub answer : WalkOrNone r
+  -- A line-up is the shortest of those that are allowed.
+  pub shortest : (litres changeovers : ℕ) → r ≡ Outcome.Walk litres changeovers → Shortest b flags start end old litres changeovers new
+  -- 'none is the answer exactly when no such line-up exists'
+  pub none-exactly : (r ≡ Outcome.Nothing) ↔ ((v : List ℕ) → Allowed b flags start end v → ⊥)
+  -- 01: 'If there is none, .. the line-up area is untouched.'
+  pub none-untouched : r ≡ Outcome.Nothing → new ≡ old
+
+-- Binding for a batch, and planning under the count that it answered and the runs area as it left it.
+pub record BatchPlans (s : List ℕ) (b : Book) (flags : ℕ) (area : List ℕ) (known′ start end : ℕ) (old : List ℕ) : Type 0 where
+  -- There is an answer, and only one, with one set of bytes.
+  pub answered : (r : Outcome) × (new : List ℕ) × Planning s (areaAfter (binding s flags area) area) known′ start end old r new
+  pub one : (r r′ : Outcome) (new new′ : List ℕ) → Planning s (areaAfter (binding s flags area) area) known′ start end old r new
+      → Planning s (areaAfter (binding s flags area) area) known′ start end old r′ new′ → (r ≡ r′) × (new ≡ new′)
+  -- What it is.
+  pub plans : (r : Outcome) (new : List ℕ) → Planning s (areaAfter (binding s flags area) area) known′ start end old r new → Plans b flags start end old r new
+  -- 01: 'A sheet that needs 0 binds every batch.'
+  pub needs-0 : (set : RuleSet) → set .flags ≡ 0 → Binds set flags
+
+-- ---- the known paths are those of the sheets that bind
+module _ (b : Book) (flags : ℕ) where
+  avoids→clear : (w : List ℕ) → Avoids (known flags (b .sets)) w → Clear b flags w
+  avoids→clear w a set m binds p i = a p (Applied→known flags (b .sets) (record { set = set; listed = m; applying = binds-when set flags .1 binds; path = i }))
+
+  clear→avoids : (w : List ℕ) → Clear b flags w → Avoids (known flags (b .sets)) w
+  clear→avoids w c p m =
+      let a = known→Applied flags (b .sets) m in
+      c (a .set) (a .listed) (binds-when (a .set) flags .0 (a .applying)) p (a .path)
+
+  module _ (start end : ℕ) (w : List ℕ) where
+    pub feasible→allowed : Feasible (graph b) (known flags (b .sets)) start end w → Allowed b flags start end w
+    feasible→allowed f = record { walk = f .walk; starts = f .starts; ends = f .ends; clear = avoids→clear w (f .clear) }
+
+    pub allowed→feasible : Allowed b flags start end w → Feasible (graph b) (known flags (b .sets)) start end w
+    allowed→feasible f = record { walk = f .walk; starts = f .starts; ends = f .ends; clear = clear→avoids w (f .clear) }
+
+-- ---- ties
+tie-hops : (g : Graph) (v w : List ℕ) → v ≼⟨ g ⟩ w → weightOf g w ≡ weightOf g v → hops v ≤ hops w
+tie-hops g v w (inl p) e = absurd (omega arith)
+tie-hops g v w (inr (same, inl p)) e = omega arith
+tie-hops g v w (inr (same, inr p)) e = omega arith
+
+tie-first : (g : Graph) (v w : List ℕ) → v ≼⟨ g ⟩ w → weightOf g w ≡ weightOf g v → hops w ≡ hops v → Lex v w
+tie-first g v w (inl p) e h = absurd (omega arith)
+tie-first g v w (inr (same, inl p)) e h = absurd (omega arith)
+tie-first g v w (inr (same, inr p)) e h = p .1
+
+-- ---- a plan under the known paths
+module _ (b : Book) (well : WellFormed b) (flags start end : ℕ) (start-below : start < b .count) (end-below : end < b .count) (old : List ℕ) (long : longest ≤ length old) where
+  abbrev F : List (List ℕ)
+  F = known flags (b .sets)
+
+  module _ (litres changeovers : ℕ) (new : List ℕ) (p : PlannedWalk (graph b) F start end old litres changeovers new) where
+    size : suc changeovers ≡ length (p .walk)
+    size = omega (arith, p .hops-is, hops-length (p .walk) (p .best .feasible .walk))
+
+    front : take (suc changeovers) new ≡ p .walk
+    front = ap (take (suc changeovers)) (p .area-is) ∙ take-at (p .walk) (drop (length (p .walk)) old) (suc changeovers) (sym size)
+
+    short-walk : length (p .walk) ≤ longest
+    short-walk =
+        let planner = chosen-planner b well in
+        let set = known-set flags b well in
+        subst (Decided (graph b) F start end) (plan-best planner set start-below end-below (p .best)) (planner .plans F start end set start-below end-below) .1
+
+    before : (v : List ℕ) → Allowed b flags start end v → p .walk ≼⟨ graph b ⟩ v
+    before v a = p .best .least v (allowed→feasible b flags start end v a)
+
+    is-shortest : Shortest b flags start end old litres changeovers new
+    is-shortest =
+        record {
+          allowed = subst (Allowed b flags start end) (sym front) (feasible→allowed b flags start end (p .walk) (p .best .feasible));
+          litres-are = p .weight-is ∙ ap (weightOf (graph b)) (sym front);
+          changeovers-are = p .hops-is ∙ ap hops (sym front);
+          least = λ v a. omega (arith, p .weight-is, ≼-weight (graph b) (p .walk) v (before v a));
+          fewest = λ v a e. omega (arith, p .hops-is, tie-hops (graph b) (p .walk) v (before v a) (e ∙ p .weight-is));
+          lowest = λ v a e h. subst (λ w. Lex w v) (sym front) (tie-first (graph b) (p .walk) v (before v a) (e ∙ p .weight-is) (h ∙ p .hops-is));
+          ordered = λ v a. subst (λ w. w ≼⟨ graph b ⟩ v) (sym front) (before v a);
+          short = subst (λ w. length w ≤ longest) (sym front) short-walk;
+          untouched =
+              ap (drop (suc changeovers)) (p .area-is)
+              ∙ drop-at (p .walk) (drop (length (p .walk)) old) (suc changeovers) (sym size)
+              ∙ ap (λ k. drop k old) (sym size);
+          same-length =
+              let joined = ap length (p .area-is) ∙ length-append (p .walk) (drop (length (p .walk)) old) in
+              omega (arith, joined, length-drop (length (p .walk)) old, short-walk);
+        }
+
+  known-plans : (r : Outcome) (new : List ℕ) → Planned none (graph b) F start end old r new → Plans b flags start end old r new
+  known-plans (Outcome.Walk weight hops′) new p =
+      record {
+        answer = inl (weight, hops′, refl);
+        shortest = λ litres changeovers e.
+            let same-weight : weight ≡ litres = cc in
+            let same-hops : hops′ ≡ changeovers = cc in
+            subst₂ (λ n k. Shortest b flags start end old n k new) same-weight same-hops (is-shortest weight hops′ new p);
+        none-exactly = (λ e. zero-one (cc), λ no-walk. absurd (no-walk (p .walk) (feasible→allowed b flags start end (p .walk) (p .best .feasible))));
+        none-untouched = λ e. zero-one (cc);
+      }
+  known-plans Outcome.Nothing new p =
+      record {
+        answer = inr refl;
+        shortest = λ litres changeovers e. zero-one (cc);
+        none-exactly = (λ e v a. p .0 v (allowed→feasible b flags start end v a), λ _. refl);
+        none-untouched = λ _. p .1;
+      }
+  known-plans (Outcome.Refused x) new p = absurd p
+
+-- ---- the theorem
+-- The count that binding answers is that of the known paths.
+module _ (s : List ℕ) (b : Book) (read : reading s ≡ accepted b) (flags : ℕ) (area : List ℕ) (fits : areaSize ≤ length area) where
+  pub count-is : (n : ℕ) → boundAs (binding s flags area) ≡ Bound.Known n → n ≡ length (known flags (b .sets))
+  count-is n answer = let both : Bound.Known n ≡ Bound.Known (length (known flags (b .sets))) = sym answer ∙ ap boundAs (binds s b read flags area fits) in cc
+
+-- Planning, refused or not, has one answer and one set of bytes.
+pub one-plan : (s paths : List ℕ) (count start end : ℕ) (old : List ℕ) (r r′ : Outcome) (new new′ : List ℕ)
+    → Planning s paths count start end old r new → Planning s paths count start end old r′ new′ → (r ≡ r′) × (new ≡ new′)
+one-plan s paths count start end old r r′ new new′ p p′ =
+    let F = spelled count paths in
+    planned-same (refusalOf (reading s) (planTests paths count start end old)) (graph (bookIn (reading s))) F F (λ _ m. m) (λ _ m. m) start end old r r′ new new′ p p′
+
+pub batch-plans : (s : List ℕ) (b : Book) → reading s ≡ accepted b → (flags : ℕ) (area : List ℕ) → areaSize ≤ length area
+    → (n : ℕ) → boundAs (binding s flags area) ≡ Bound.Known n → (start end : ℕ) → start < b .count → end < b .count → (old : List ℕ) → longest ≤ length old
+    → BatchPlans s b flags area n start end old
+batch-plans s b read flags area fits n answer start end start-below end-below old long =
+    let after = areaAfter (binding s flags area) area in
+    let n-is : length (known flags (b .sets)) ≡ n = sym (count-is s b read flags area fits n answer) in
+    subst (λ m. BatchPlans s b flags area m start end old) n-is
+    (record {
+      answered = answers s b read flags start end start-below end-below area old fits long .planned .answered;
+      one = one-plan s after (length (known flags (b .sets))) start end old;
+      plans = under-known;
+      needs-0 = λ set e. needs-nothing set e flags;
+    })
+  where
+    under-known : (r : Outcome) (new : List ℕ) → Planning s (areaAfter (binding s flags area) area) (length (known flags (b .sets))) start end old r new
+        → Plans b flags start end old r new
+    under-known r new p =
+        let well = reading-is-book s b read .well-formed in
+        let F = known flags (b .sets) in
+        let after = areaAfter (binding s flags area) area in
+        let (long-after, runs) = binds-valid s b read flags area fits in
+        let spells : spelled (length F) after ≡ F = bind-accepted s flags area F (binds s b read flags area fits) .spells in
+        let none-refused : refusalBy (planTests after (length F) start end old b) ≡ none =
+        unrefused (accepted b) .plan after (length F) start end old .1
+        (record { book = b; read = refl; asked = record { runs-area = long-after; walk-area = long; start-below = start-below; end-below = end-below; runs = runs } }) in
+        known-plans b well flags start end start-below end-below old long r new
+        (subst (λ G. Planned none (graph b) G start end old r new) spells
+        (subst (λ o. Planned o (graph b) (spelled (length F) after) start end old r new) none-refused
+        (subst (λ x. PlanningOf x after (length F) start end old r new) read p)))
