@@ -1,10 +1,9 @@
 -- Demand 1: 'Every book .. that keeps the rules of document 01 is read, and every batch, start grade and end grade within it, with areas of the
 -- sizes set there, gets a line-up or the answer none.' What is answered where nothing is refused.
 use Prim.Native.Nat.{ℕ, suc, _≤_, _<_}
-use mathlib.Core.Path.{_≡_, refl, sym, ap, ap₂, subst, _∙_}
-use mathlib.Core.Bool.{Bool, true, false, cond, not, _&&_}
+use mathlib.Core.Path.{_≡_, refl, sym, ap, subst, _∙_}
 use mathlib.Core.List.{List, [], _∷_, _++_}
-use mathlib.Core.Logic.{_↔_, _⊎_, inl, inr}
+use mathlib.Core.Logic.{_⊎_, inl, inr}
 use mathlib.Core.Option.{Option, none, some, Option·none-ne-some}
 use native.Mathlib.Omega.{arith}
 use borrow.Author.Tests.{leb-true}
@@ -12,13 +11,13 @@ use lib.Dec.{leb}
 use lib.ListN.{length, drop, length-map}
 use Rattle.limits.specs.Limits.{mostVertices, areaSize, longest}
 use Rattle.lists.specs.Test.{and-true}
-use Rattle.walks.specs.Graph.{Graph, Arc}
+use Rattle.walks.specs.Graph.{Graph}
 use Rattle.walks.specs.Walk.{Walk, weightOf, hops}
 use Rattle.states.specs.Chosen.{Decided, chosen, chosen-is}
 use Rattle.book.specs.declared.Answer.{Answer}
 use Rattle.book.specs.declared.Refusal.{Refusal}
 use Rattle.book.specs.Refusal.{firstFailure, refusalBy}
-use Rattle.book.specs.Book.{Book, counts, graph, given, properArc}
+use Rattle.book.specs.Book.{Book, counts, graph}
 use Rattle.book.specs.RefusalLaws.{none→hold}
 use Rattle.book.specs.BookLaws.{reading-is-book}
 use Rattle.book.specs.Reading.{Reading, accepted, refused, reading, readAs, andThen, outcome, withArc, arcTests, addArc, refusalOf, bookIn}
@@ -29,7 +28,7 @@ use Rattle.rules.specs.AreaLaws.{length-blocks}
 use Rattle.rules.specs.ValidLaws.{Valid, valid→Valid}
 use Rattle.rules.specs.Operations.{Binding, bindTests, boundAs, bindingOf, binding, areaAfter}
 use Rattle.rules.specs.Operations
-use Rattle.rules.specs.Laws.{Filled, bind-accepted}
+use Rattle.rules.specs.Laws.{bind-accepted}
 use Rattle.walk_check.specs.Laws.{sizes}
 use Rattle.walk_check.specs.Checking.{verdict, occurrence, checkTests, checking}
 use Rattle.planner.specs.declared.Outcome.{Outcome}
@@ -38,13 +37,16 @@ use Rattle.listed.specs.declared.Arc.{Arc as Item}
 use Rattle.listed.specs.Listing.{arcOf, counting, counted, items, listing}
 use Rattle.listed.specs.SameBook.{arcsOf, listed-book}
 use Rattle.trial_record.specs.declared.Record.{Record}
-use Rattle.trial_rules.specs.Trials.{State, beginTests, run}
+use Rattle.trial_rules.specs.Trials.{Report, State, step, run}
 use Rattle.trials.specs.declared.Begun.{Begun}
-use Rattle.trials.specs.Operations.{begunAs, firstState, beginning, beginningOf}
+use Rattle.trials.specs.declared.Reported.{Reported}
+use Rattle.trials.specs.Operations.{begunAs, firstState, beginning, reportedAs, reporting}
+use Rattle.trials.specs.OperationLaws.{TestsPassed}
+use Rattle.judging.specs.Judging.{stateOf}
 use Rattle.series.specs.Reports.{reportsOf}
 use Rattle.series.specs.Making.{replaying}
 use Rattle.demands.specs.Refusals.{ClearOrOccurs, check-finds, beginRefusal, zero-one}
-use Rattle.demands.specs.Conditions.{Fits, BindAsks, CheckAsks, PlanAsks, BeginAsks, Unrefused, unrefused}
+use Rattle.demands.specs.Conditions.{CheckAsks, PlanAsks, unrefused}
 
 -- ---- the statement
 abbrev pub WalkOrNone : Outcome → Type 0
@@ -141,6 +143,14 @@ check-gets s area count w b read h =
 begun-gets : (o : Option Refusal) (σ : State) (paths walk : List ℕ) → o ≡ none → (r : Record) × (begunAs o σ paths walk .answer ≡ Begun.Record r)
 begun-gets none σ paths walk e = (σ .rec, refl)
 begun-gets (some x) σ paths walk e = absurd (Option·none-ne-some x (sym e))
+
+-- Of a report that passes its tests: it is accepted, with a record.
+pub report-answers : (s : List ℕ) (b : Book) → reading s ≡ accepted b → (r : Record) (paths walk : List ℕ) (ρ : Report) → TestsPassed b r paths walk ρ
+    → (r′ : Record) × (reporting s r paths walk ρ .answer ≡ Reported.Accepted r′)
+report-answers s b read r paths walk ρ h =
+    let none-refused = unrefused (reading s) .report r paths walk ρ .1 (record { book = b; read = read; asked = h }) in
+    let σ = step (graph (bookIn (reading s))) (chosen (graph (bookIn (reading s)))) (stateOf r paths walk) ρ in
+    (σ .rec, ap (λ o. reportedAs o σ r paths walk .answer) none-refused)
 
 -- ---- an accepted book
 -- What binding gives is the known paths, and its area is valid.

@@ -5,20 +5,19 @@ use mathlib.Core.Path.{_≡_, refl, sym, ap, ap₂, subst, _∙_}
 use mathlib.Core.Bool.{Bool, true, false, cond, _&&_}
 use mathlib.Core.List.{List, [], _∷_, _++_}
 use mathlib.Core.Logic.{_↔_}
-use mathlib.Core.Option.{Option, none, some, Option·none-ne-some}
+use mathlib.Core.Option.{none, some, Option·none-ne-some}
 use native.Mathlib.Omega.{arith}
 use borrow.Author.Tests.{leb-true, le-leb, ltb-true, lt-ltb, eq-eqb}
 use lib.Dec.{leb}
 use lib.ListN.{length, drop, take-append-drop, length-map}
 use Rattle.limits.specs.Limits.{areaSize, longest}
 use Rattle.lists.specs.Test.{T→true, true→T, and-true}
-use Rattle.walks.specs.Graph.{Graph}
 use Rattle.walks.specs.Walk.{Walk, isWalk, isWalk→Walk, Walk→isWalk}
 use Rattle.book.specs.declared.Refusal.{Refusal}
 use Rattle.book.specs.Refusal.{Test, firstFailure, order, inOrder, refusalBy}
 use Rattle.book.specs.RefusalLaws.{Fails, here, later, first-fails, none→hold, hold→none}
 use Rattle.book.specs.Book.{Book, graph}
-use Rattle.book.specs.Reading.{Reading, accepted, refused, reading, refusalOf}
+use Rattle.book.specs.Reading.{Reading, accepted, refused, refusalOf}
 use Rattle.rules.specs.Area.{written, blocks, spelled, valid}
 use Rattle.rules.specs.AreaLaws.{length-blocks}
 use Rattle.rules.specs.ValidLaws.{Valid, valid→Valid, written-valid}
@@ -26,7 +25,7 @@ use Rattle.rules.specs.Operations.{bindTests}
 use Rattle.walk_check.specs.Checking.{checkable, checkTests}
 use Rattle.planner.specs.Planning.{planTests}
 use Rattle.trial_record.specs.declared.Record.{Record}
-use Rattle.trial_rules.specs.Trials.{Report, pathArea, beginTests}
+use Rattle.trial_rules.specs.Trials.{Report, beginTests}
 use Rattle.judging.specs.Judging.{stateOf, reportTests}
 use Rattle.trials.specs.OperationLaws.{TestsPassed, passed-tests, area-valid, record-part}
 

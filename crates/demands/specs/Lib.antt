@@ -4,3 +4,4 @@ pub mod Refusals
 pub mod Conditions
 pub mod Answers
 pub mod Plans
+pub mod SheetOrder

@@ -1,7 +1,7 @@
 -- Which marks a sheet needs and a batch has, bit by bit; and that the definition of binding decides this.
-use Prim.Native.Nat.{ℕ, zero, suc, _*_, _/_, _%_, _^_, _<_, _≤_}
+use Prim.Native.Nat.{ℕ, zero, suc, _/_, _%_, _^_, _<_, _≤_}
 use mathlib.Core.Path.{_≡_, refl, sym, ap, _∙_}
-use mathlib.Core.Bool.{Bool, true, false, _&&_}
+use mathlib.Core.Bool.{true}
 use mathlib.Core.Logic.{_↔_, by-cases}
 use native.Mathlib.Nat.{pow-zero, pow-succ', div-one, div-div-eq-div-mul, zero-div}
 use native.Mathlib.Omega.{arith}

@@ -1,10 +1,10 @@
 -- Demand 2: 'A plan under the known runs that binding gives is a shortest path avoiding forbidden subpaths, as source document 000 section 1.2
 -- defines it.' Said with the sheets of a book; the known runs stand nowhere in it.
-use Prim.Native.Nat.{ℕ, suc, _+_, _≤_, _<_}
+use Prim.Native.Nat.{ℕ, suc, _≤_, _<_}
 use mathlib.Core.Path.{_≡_, refl, sym, ap, subst, subst₂, _∙_}
-use mathlib.Core.List.{List, [], _∷_, _++_, List·Memᴰ}
-use mathlib.Core.Logic.{_↔_, _⊎_, inl, inr}
-use mathlib.Core.Option.{Option, none, some}
+use mathlib.Core.List.{List, List·Memᴰ}
+use mathlib.Core.Logic.{_↔_, inl, inr}
+use mathlib.Core.Option.{none}
 use native.Mathlib.Omega.{arith}
 use lib.ListN.{length, getD, take, drop, length-append, length-drop}
 use lib.Seq.{take-at, drop-at}
@@ -12,18 +12,17 @@ use Rattle.limits.specs.Limits.{areaSize, longest}
 use Rattle.walks.specs.Graph.{Graph}
 use Rattle.walks.specs.Walk.{Walk, weightOf, hops, hops-length}
 use Rattle.walks.specs.Avoid.{Occurs, Avoids}
-use Rattle.walks.specs.Order.{Tiebreak, Lex, _≼⟨_⟩_, ≼-weight}
-use Rattle.walks.specs.Best.{Feasible, Best, None}
-use Rattle.book.specs.declared.Refusal.{Refusal}
+use Rattle.walks.specs.Order.{Lex, _≼⟨_⟩_, ≼-weight}
+use Rattle.walks.specs.Best.{Feasible}
 use Rattle.book.specs.Refusal.{refusalBy}
 use Rattle.book.specs.Book.{RuleSet, Book, WellFormed, graph}
 use Rattle.book.specs.BookLaws.{reading-is-book}
 use Rattle.book.specs.Reading.{accepted, reading, refusalOf, bookIn}
 use Rattle.rules.specs.declared.Bound.{Bound}
-use Rattle.rules.specs.Binding.{applies, known}
+use Rattle.rules.specs.Binding.{known}
 use Rattle.rules.specs.Area.{spelled}
-use Rattle.rules.specs.Operations.{Binding, boundAs, binding, areaAfter}
-use Rattle.rules.specs.Laws.{Applied, known→Applied, Applied→known, bind-accepted}
+use Rattle.rules.specs.Operations.{boundAs, binding, areaAfter}
+use Rattle.rules.specs.Laws.{known→Applied, Applied→known, bind-accepted}
 use Rattle.routes.specs.Plan.{PlannedWalk}
 use Rattle.planner.specs.declared.Outcome.{Outcome}
 use Rattle.planner.specs.Planning.{planTests, Planned, PlanningOf, Planning}

@@ -1,31 +1,24 @@
 -- Demand 1: 'Everything else gets its numbered refusal, under that refusal's stated condition and no other, and a refusal writes to no lent
 -- memory.' What is refused, for each operation: exactly what its tests say, in their order; and a refusal leaves every lent byte and the record.
-use Prim.Native.Nat.{ℕ, zero, suc, _-_, _≤_, _<_}
-use mathlib.Core.Path.{_≡_, refl, sym, ap, subst, _∙_}
-use mathlib.Core.Bool.{Bool, true, false, cond, _&&_}
-use mathlib.Core.List.{List, [], _∷_}
+use Prim.Native.Nat.{ℕ, zero, suc, _-_}
+use mathlib.Core.Path.{_≡_, refl, ap, _∙_}
+use mathlib.Core.List.{List}
 use mathlib.Core.Logic.{_↔_, _⊎_, inl, inr}
 use mathlib.Core.Option.{Option, none, some, Option·none-ne-some}
 use native.Mathlib.Omega.{arith}
-use borrow.Author.Tests.{leb-true, le-leb, ltb-true, lt-ltb}
-use lib.Dec.{leb}
 use lib.ListN.{length}
-use Rattle.limits.specs.Limits.{areaSize, longest}
-use Rattle.lists.specs.Test.{T→true, true→T, and-true}
 use Rattle.walks.specs.Graph.{Graph}
-use Rattle.walks.specs.Walk.{Walk, isWalk, isWalk→Walk, Walk→isWalk}
+use Rattle.walks.specs.Walk.{Walk}
 use Rattle.book.specs.declared.Answer.{Answer}
 use Rattle.book.specs.declared.Refusal.{Refusal}
-use Rattle.book.specs.Refusal.{Test, firstFailure, order, inOrder, refusalBy}
-use Rattle.book.specs.RefusalLaws.{Hold, Fails, here, later, first-fails, none→hold, hold→none}
-use Rattle.book.specs.Book.{Book, graph}
+use Rattle.book.specs.Book.{graph}
 use Rattle.book.specs.Reading.{Reading, accepted, refused, reading, readAs, refusalOf, bookIn}
 use Rattle.rules.specs.declared.Bound.{Bound}
-use Rattle.rules.specs.Area.{spelled, valid}
+use Rattle.rules.specs.Area.{spelled}
 use Rattle.rules.specs.Binding.{known}
 use Rattle.rules.specs.Operations.{outcome, bindTests, boundAs, binding, areaAfter}
 use Rattle.walk_check.specs.declared.Checked.{Checked}
-use Rattle.walk_check.specs.Checking.{namedAt, answerAt, checkFrom, verdict, occurrence, checkable, checkTests, checking}
+use Rattle.walk_check.specs.Checking.{namedAt, answerAt, checkFrom, verdict, occurrence, checkTests, checking}
 use Rattle.planner.specs.declared.Outcome.{Outcome}
 use Rattle.planner.specs.Planning.{planTests, Planned, PlanningOf, Planning}
 use Rattle.listed.specs.declared.Arc.{Arc as Item}

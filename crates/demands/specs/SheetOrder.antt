@@ -1,0 +1,155 @@
+-- Demand 2: 'Two accepted books that differ only in the order of their sheets give equal plans.' And equal counts of known runs, and equal trials.
+use Prim.Native.Nat.{ℕ, _≤_}
+use mathlib.Core.Path.{_≡_, refl, sym, ap, ap₂, subst, subst₂, _∙_}
+use mathlib.Core.List.{List, _++_}
+use mathlib.Core.Option.{Option, none, some}
+use native.Mathlib.Omega.{arith}
+use lib.ListN.{length, drop}
+use lib.Seq.{drop-at}
+use Rattle.limits.specs.Limits.{mostVertices, areaSize}
+use Rattle.lists.specs.Distinct.{distinct-length}
+use Rattle.walks.specs.Graph.{Graph, fromArcs}
+use Rattle.walks.specs.Avoid.{_⊆_}
+use Rattle.walks.specs.Best.{Best·unique, Best·not-None, Best·same-set}
+use Rattle.book.specs.declared.Refusal.{Refusal}
+use Rattle.book.specs.Refusal.{refusalBy}
+use Rattle.book.specs.Book.{Book, WellFormed, graph}
+use Rattle.book.specs.BookLaws.{reading-is-book}
+use Rattle.book.specs.Reading.{accepted, reading}
+use Rattle.rules.specs.declared.Bound.{Bound}
+use Rattle.rules.specs.Binding.{known}
+use Rattle.rules.specs.Area.{written, spelled}
+use Rattle.rules.specs.Operations.{boundAs, binding, areaAfter}
+use Rattle.rules.specs.Laws.{same-set}
+use Rattle.rules.specs.ValidLaws.{written-length, written-spells}
+use Rattle.states.specs.Chosen.{Decided, chosen, chosen-is}
+use Rattle.walk_check.specs.Laws.{sizes}
+use Rattle.planner.specs.declared.Outcome.{Outcome}
+use Rattle.planner.specs.Planning.{Planning}
+use Rattle.planner.specs.RuleSets.{Reordered, order-of-sets}
+use Rattle.trial_record.specs.declared.Record.{Record}
+use Rattle.trial_rules.specs.Trials.{ForbiddenSet, stageOf, litresOf, lengthOf, overlaid, beginTests, begin}
+use Rattle.trial_rules.specs.Tests.{set-paths, set-once}
+use Rattle.trials.specs.declared.Begun.{Begun}
+use Rattle.trials.specs.Operations.{Leaves, begunAs, beginningOf, beginning}
+use Rattle.trials.specs.Replanning.{known-set}
+use Rattle.demands.specs.Refusals.{zero-one}
+use Rattle.demands.specs.Answers.{binds}
+use Rattle.demands.specs.Plans.{count-is}
+
+-- ---- the statement
+-- Two begins leave the same trials: equal answers and line-up areas; and where it is a record, runs areas with the same runs, in another order
+-- perhaps, and the same bytes after them.
+pub record SameTrials (l l′ : Leaves Begun) : Type 0 where
+  pub answers : l .answer ≡ l′ .answer
+  pub walks : l .walk ≡ l′ .walk
+  pub runs : (r : Record) → l .answer ≡ Begun.Record r → (spelled (r .known) (l .paths) ⊆ spelled (r .known) (l′ .paths)) × (spelled (r .known) (l′ .paths) ⊆ spelled (r .known) (l .paths))
+  pub beyond : drop areaSize (l .paths) ≡ drop areaSize (l′ .paths)
+
+-- Of the bytes of two books.
+pub record SameAnswers (s s′ : List ℕ) : Type 0 where
+  pub counts : (flags : ℕ) (area area′ : List ℕ) → areaSize ≤ length area → areaSize ≤ length area′ → boundAs (binding s flags area) ≡ boundAs (binding s′ flags area′)
+  -- For every batch, start and end, and every line-up area, refusals included.
+  pub plans : (flags : ℕ) (area area′ : List ℕ) → areaSize ≤ length area → areaSize ≤ length area′
+      → (n n′ : ℕ) → boundAs (binding s flags area) ≡ Bound.Known n → boundAs (binding s′ flags area′) ≡ Bound.Known n′
+      → (start end : ℕ) (old : List ℕ) (r r′ : Outcome) (new new′ : List ℕ)
+      → Planning s (areaAfter (binding s flags area) area) n start end old r new
+      → Planning s′ (areaAfter (binding s′ flags area′) area′) n′ start end old r′ new′
+      → (r ≡ r′) × (new ≡ new′)
+  pub trials : (flags start end : ℕ) (paths walk : List ℕ) → SameTrials (beginning s flags start end paths walk) (beginning s′ flags start end paths walk)
+
+-- ---- begin, under two lists of the same paths
+module _ (g : Graph) (F G : List (List ℕ)) (more : F ⊆ G) (less : G ⊆ F) (s t : ℕ) where
+  one-choice : (p q : Option (List ℕ)) → Decided g F s t p → Decided g G s t q → p ≡ q
+  one-choice none none n m = refl
+  one-choice none (some w) n (best, _) = absurd (Best·not-None (Best·same-set less more best) n)
+  one-choice (some v) none (best, _) m = absurd (Best·not-None (Best·same-set more less best) m)
+  one-choice (some v) (some w) (best, _) (best′, _) = ap some (Best·unique (Best·same-set more less best) best′)
+
+decides : (g : Graph) (F : List (List ℕ)) → g .count ≤ mostVertices → ForbiddenSet (g .count) F → (s t : ℕ) → Decided g F s t (chosen g F s t)
+decides g F few set s t = chosen-is g F s t few (set .few) (λ r m. sizes (g .count) F (set-paths (g .count) F set) r m .1)
+
+-- Two sets of the same paths have as many.
+same-size : {n : ℕ} {F G : List (List ℕ)} → F ⊆ G → G ⊆ F → ForbiddenSet n F → ForbiddenSet n G → length F ≡ length G
+same-size {n} {F} {G} more less F-set G-set = omega (arith, distinct-length F G (F-set .distinct) more, distinct-length G F (G-set .distinct) less)
+
+-- The bytes that a set leaves in the runs area spell it, and then come those that were there.
+module _ (v : ℕ) (F : List (List ℕ)) (set : ForbiddenSet v F) (beyond : List ℕ) where
+  area-spells : (n : ℕ) → length F ≡ n → spelled n (written F ++ beyond) ≡ F
+  area-spells n is = ap (λ k. spelled k (written F ++ beyond)) (sym is) ∙ written-spells v F (set .few) (set-paths v F set) (set-once v F set) beyond
+
+  area-beyond : drop areaSize (written F ++ beyond) ≡ beyond
+  area-beyond = drop-at (written F) beyond areaSize (written-length v F (set .few) (set-paths v F set) (set-once v F set) beyond)
+
+module _
+    (g : Graph) (F G : List (List ℕ)) (more : F ⊆ G) (less : G ⊆ F) (F-set : ForbiddenSet (g .count) F) (G-set : ForbiddenSet (g .count) G)
+    (s t : ℕ) (same-choice : chosen g F s t ≡ chosen g G s t) (paths walk : List ℕ)
+  where
+    same-begun : (o : Option Refusal)
+        → SameTrials (begunAs o (begin g (chosen g) F s t paths walk) paths walk) (begunAs o (begin g (chosen g) G s t paths walk) paths walk)
+    same-begun (some x) = record { answers = refl; walks = refl; runs = λ r e. zero-one (cc); beyond = refl }
+    same-begun none =
+        let size = same-size more less F-set G-set in
+        let rest = drop areaSize paths in
+        record {
+          answers =
+              ap₂ (λ p n. Begun.Record (record { stage = stageOf p; start = s; end = t; known = n; first = n; failed = 0; passed = 0; litres = litresOf g p; length = lengthOf p }))
+              same-choice size;
+          walks = ap (λ p. overlaid p walk) same-choice;
+          runs = λ r e.
+              let same : begin g (chosen g) F s t paths walk .rec ≡ r = cc in
+              let F-size : length F ≡ r .known = ap (λ (q : Record). q .known) same in
+              let F-is = sym (area-spells (g .count) F F-set rest (r .known) F-size) in
+              let G-is = sym (area-spells (g .count) G G-set rest (r .known) (sym size ∙ F-size)) in
+              (subst₂ (λ P Q. P ⊆ Q) F-is G-is more, subst₂ (λ P Q. P ⊆ Q) G-is F-is less);
+          beyond = area-beyond (g .count) F F-set rest ∙ sym (area-beyond (g .count) G G-set rest);
+        }
+
+-- ---- the theorem
+pub same-answers : (s s′ : List ℕ) (b c : Book) → reading s ≡ accepted b → reading s′ ≡ accepted c → Reordered b c → SameAnswers s s′
+same-answers s s′ b c read read′ o = record { counts = counts; plans = plans; trials = trials }
+  where
+    well : WellFormed b
+    well = reading-is-book s b read .well-formed
+
+    same-graph : graph c ≡ graph b
+    same-graph = ap₂ fromArcs (o .counts) (o .arcs)
+
+    -- the known paths of c, as those of a book on b's graph
+    G-set : (flags : ℕ) → ForbiddenSet (b .count) (known flags (c .sets))
+    G-set flags = subst (λ n. ForbiddenSet n (known flags (c .sets))) (o .counts) (known-set flags c (reading-is-book s′ c read′ .well-formed))
+
+    size : (flags : ℕ) → length (known flags (b .sets)) ≡ length (known flags (c .sets))
+    size flags =
+        let (more, less) = same-set flags b c (o .sets) in
+        same-size more less (known-set flags b well) (G-set flags)
+
+    counts : (flags : ℕ) (area area′ : List ℕ) → areaSize ≤ length area → areaSize ≤ length area′ → boundAs (binding s flags area) ≡ boundAs (binding s′ flags area′)
+    counts flags area area′ fits fits′ =
+        ap boundAs (binds s b read flags area fits) ∙ ap Bound.Known (size flags) ∙ sym (ap boundAs (binds s′ c read′ flags area′ fits′))
+
+    plans : (flags : ℕ) (area area′ : List ℕ) → areaSize ≤ length area → areaSize ≤ length area′
+        → (n n′ : ℕ) → boundAs (binding s flags area) ≡ Bound.Known n → boundAs (binding s′ flags area′) ≡ Bound.Known n′
+        → (start end : ℕ) (old : List ℕ) (r r′ : Outcome) (new new′ : List ℕ)
+        → Planning s (areaAfter (binding s flags area) area) n start end old r new
+        → Planning s′ (areaAfter (binding s′ flags area′) area′) n′ start end old r′ new′
+        → (r ≡ r′) × (new ≡ new′)
+    plans flags area area′ fits fits′ n n′ is is′ start end old r r′ new new′ p p′ =
+        order-of-sets flags start end old s s′ b c read read′ o area area′ (known flags (b .sets)) (known flags (c .sets))
+        (binds s b read flags area fits) (binds s′ c read′ flags area′ fits′) r r′ new new′
+        (subst (λ m. Planning s (areaAfter (binding s flags area) area) m start end old r new) (count-is s b read flags area fits n is) p)
+        (subst (λ m. Planning s′ (areaAfter (binding s′ flags area′) area′) m start end old r′ new′) (count-is s′ c read′ flags area′ fits′ n′ is′) p′)
+
+    trials : (flags start end : ℕ) (paths walk : List ℕ) → SameTrials (beginning s flags start end paths walk) (beginning s′ flags start end paths walk)
+    trials flags start end paths walk =
+        let F = known flags (b .sets) in
+        let G = known flags (c .sets) in
+        let (more, less) = same-set flags b c (o .sets) in
+        let g = graph b in
+        let F-set = known-set flags b well in
+        let same-choice : chosen g F start end ≡ chosen g G start end =
+        one-choice g F G more less start end (chosen g F start end) (chosen g G start end) (decides g F (well .few-vertices) F-set start end) (decides g G (well .few-vertices) (G-set flags) start end) in
+        let begins : (h : Graph) → List (List ℕ) → Leaves Begun = λ h H. begunAs (refusalBy (beginTests h start end paths walk)) (begin h (chosen h) H start end paths walk) paths walk in
+        let left : beginning s flags start end paths walk ≡ begins g F = ap (λ x. beginningOf x flags start end paths walk) read in
+        let right : beginning s′ flags start end paths walk ≡ begins g G = ap (λ x. beginningOf x flags start end paths walk) read′ ∙ ap (λ h. begins h G) same-graph in
+        subst₂ SameTrials (sym left) (sym right) (same-begun g F G more less F-set (G-set flags) start end same-choice paths walk (refusalBy (beginTests g start end paths walk)))
