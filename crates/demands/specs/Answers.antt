@@ -41,12 +41,11 @@ use Rattle.trial_rules.specs.Trials.{Report, State, step, run}
 use Rattle.trials.specs.declared.Begun.{Begun}
 use Rattle.trials.specs.declared.Reported.{Reported}
 use Rattle.trials.specs.Operations.{begunAs, firstState, beginning, reportedAs, reporting}
-use Rattle.trials.specs.OperationLaws.{TestsPassed}
 use Rattle.judging.specs.Judging.{stateOf}
 use Rattle.series.specs.Reports.{reportsOf}
 use Rattle.series.specs.Making.{replaying}
-use Rattle.demands.specs.Refusals.{ClearOrOccurs, check-finds, beginRefusal, zero-one}
-use Rattle.demands.specs.Conditions.{CheckAsks, PlanAsks, unrefused}
+use Rattle.demands.specs.Refusals.{ClearOrOccurs, check-finds, tests-of-begin, zero-one}
+use Rattle.demands.specs.Conditions.{planConditions, checkConditions, reportConditions, AllHold, conditions}
 
 -- ---- the statement
 abbrev pub WalkOrNone : Outcome → Type 0
@@ -91,15 +90,16 @@ module _ (g : Graph) (F : List (List ℕ)) (start end : ℕ) (old : List ℕ) wh
   an-answer (some w) (best, short) =
       (Outcome.Walk (weightOf g w) (hops w), w ++ drop (length w) old, record { walk = w; best = best; weight-is = refl; hops-is = refl; area-is = refl })
 
-plan-gets : (x : Reading) (paths : List ℕ) (count start end : ℕ) (walk : List ℕ) (b : Book) → x ≡ accepted b → b .count ≤ mostVertices → PlanAsks paths count start end walk b
+plan-gets : (x : Reading) (paths : List ℕ) (count start end : ℕ) (walk : List ℕ) (b : Book) → x ≡ accepted b → b .count ≤ mostVertices → AllHold (planConditions paths count start end walk b)
     → GetsPlan (PlanningOf x paths count start end walk)
 plan-gets x paths count start end walk b read few h =
-    let none-refused : refusalOf x (planTests paths count start end walk) ≡ none = unrefused x .plan paths count start end walk .1 (record { book = b; read = read; asked = h }) in
+    let none-refused : refusalOf x (planTests paths count start end walk) ≡ none = conditions x .plan paths count start end walk .accepts .1 (b, read, h) in
+    let runs = h .1 .1 .1 .1 .0 in
     let F = spelled count paths in
     let size : length F ≡ count = length-map (blocks count paths) _ ∙ length-blocks count paths in
     let g = graph (bookIn x) in
     let few-in : g .count ≤ mostVertices = subst (λ y. bookIn y .count ≤ mostVertices) (sym read) few in
-    let decided = chosen-is g F start end few-in (omega (arith, size, h .runs .few)) (λ r m. sizes (b .count) F (h .runs .paths) r m .1) in
+    let decided = chosen-is g F start end few-in (omega (arith, size, runs .few)) (λ r m. sizes (b .count) F (runs .paths) r m .1) in
     let (r, new, p) = an-answer g F start end walk (chosen g F start end) decided in
     record {
       answered = (r, new, subst (λ o. Planned o g F start end walk r new) (sym none-refused) p);
@@ -130,25 +130,25 @@ list-count n xs c e =
 
 -- Demand 1, of a list that is a book, under every valid runs area.
 pub list-answers : (n : ℕ) (xs : List Item) (c : Book) → listing n xs ≡ accepted c → (paths : List ℕ) (count start end : ℕ) (walk : List ℕ)
-    → PlanAsks paths count start end walk c → GetsPlan (PlanningOf (listing n xs) paths count start end walk)
+    → AllHold (planConditions paths count start end walk c) → GetsPlan (PlanningOf (listing n xs) paths count start end walk)
 list-answers n xs c read paths count start end walk h =
     plan-gets (listing n xs) paths count start end walk c read (omega (arith, list-count n xs c read .0, list-count n xs c read .1)) h
 
 -- ---- the other operations
-check-gets : (s area : List ℕ) (count : ℕ) (w : List ℕ) (b : Book) → reading s ≡ accepted b → CheckAsks area count w b → ClearOrOccurs (checking s area count w)
+check-gets : (s area : List ℕ) (count : ℕ) (w : List ℕ) (b : Book) → reading s ≡ accepted b → AllHold (checkConditions area count w b) → ClearOrOccurs (checking s area count w)
 check-gets s area count w b read h =
-    let none-refused : refusalOf (reading s) (checkTests area count w) ≡ none = unrefused (reading s) .check area count w .1 (record { book = b; read = read; asked = h }) in
+    let none-refused : refusalOf (reading s) (checkTests area count w) ≡ none = conditions (reading s) .check area count w .accepts .1 (b, read, h) in
     subst (λ o. ClearOrOccurs (verdict o (occurrence (spelled count area) w))) (sym none-refused) (check-finds (spelled count area) w (length w) 1)
 
 begun-gets : (o : Option Refusal) (σ : State) (paths walk : List ℕ) → o ≡ none → (r : Record) × (begunAs o σ paths walk .answer ≡ Begun.Record r)
 begun-gets none σ paths walk e = (σ .rec, refl)
 begun-gets (some x) σ paths walk e = absurd (Option·none-ne-some x (sym e))
 
--- Of a report that passes its tests: it is accepted, with a record.
-pub report-answers : (s : List ℕ) (b : Book) → reading s ≡ accepted b → (r : Record) (paths walk : List ℕ) (ρ : Report) → TestsPassed b r paths walk ρ
+-- A report of which all holds that it asks is accepted, with a record.
+pub report-answers : (s : List ℕ) (b : Book) → reading s ≡ accepted b → (r : Record) (paths walk : List ℕ) (ρ : Report) → AllHold (reportConditions r paths walk ρ b)
     → (r′ : Record) × (reporting s r paths walk ρ .answer ≡ Reported.Accepted r′)
 report-answers s b read r paths walk ρ h =
-    let none-refused = unrefused (reading s) .report r paths walk ρ .1 (record { book = b; read = read; asked = h }) in
+    let none-refused = conditions (reading s) .report r paths walk ρ .accepts .1 (b, read, h) in
     let σ = step (graph (bookIn (reading s))) (chosen (graph (bookIn (reading s)))) (stateOf r paths walk) ρ in
     (σ .rec, ap (λ o. reportedAs o σ r paths walk .answer) none-refused)
 
@@ -157,7 +157,7 @@ report-answers s b read r paths walk ρ h =
 module _ (s : List ℕ) (b : Book) (read : reading s ≡ accepted b) (flags : ℕ) (area : List ℕ) where
   pub binds : areaSize ≤ length area → binding s flags area ≡ Binding.bound (known flags (b .sets))
   binds fits =
-      let none-refused : refusalBy (bindTests area b) ≡ none = unrefused (accepted b) .bind area .1 (record { book = b; read = refl; asked = record { runs-area = fits } }) in
+      let none-refused : refusalBy (bindTests area b) ≡ none = conditions (accepted b) .bind area .accepts .1 (b, refl, (fits, tt)) in
       ap (λ x. bindingOf x flags area) read ∙ ap (λ o. Operations.outcome o (known flags (b .sets))) none-refused
 
   pub binds-valid : areaSize ≤ length area
@@ -175,23 +175,23 @@ answers s b read flags start end start-below end-below paths walk runs-area walk
     let after = areaAfter (binding s flags paths) paths in
     let n = length (known flags (b .sets)) in
     let (long, runs) = binds-valid s b read flags paths runs-area in
-    let none-refused = unrefused (reading s) .begin start end paths walk .1 (record { book = b; read = read; asked = record { runs-area = runs-area; walk-area = walk-area; start-below = start-below; end-below = end-below } }) in
+    let none-refused = conditions (reading s) .begin start end paths walk .accepts .1 (b, read, (runs-area, (walk-area, (start-below, (end-below, tt))))) in
     record {
       read = ap readAs read;
       bound = ap boundAs (binds s b read flags paths runs-area);
       planned =
           plan-gets (reading s) after n start end walk b read few
-          (record { runs-area = long; walk-area = walk-area; start-below = start-below; end-below = end-below; runs = runs });
+          (long, (walk-area, (start-below, (end-below, (runs, tt)))));
       planned-list = λ k xs k-is same.
           plan-gets (listing k xs) after n start end walk (record { count = b .count; arcs = b .arcs; sets = [] }) (ap (λ m. listing m xs) k-is ∙ listed-book s b read xs same) few
-          (record { runs-area = long; walk-area = walk-area; start-below = start-below; end-below = end-below; runs = runs });
-      checked = λ w short is. check-gets s after n w b read (record { runs-area = long; runs = runs; short = short; walk = is });
-      begun = begun-gets (beginRefusal s start end paths walk) (firstState (bookIn (reading s)) flags start end paths walk) paths walk none-refused;
-      replayed = λ reports. begun-gets (beginRefusal s start end paths walk) (replayed-state reports) paths walk none-refused;
+          (long, (walk-area, (start-below, (end-below, (runs, tt)))));
+      checked = λ w short is. check-gets s after n w b read (long, (runs, ((short, is), tt)));
+      begun = begun-gets (refusalOf (reading s) (tests-of-begin start end paths walk)) (firstState (bookIn (reading s)) flags start end paths walk) paths walk none-refused;
+      replayed = λ reports. begun-gets (refusalOf (reading s) (tests-of-begin start end paths walk)) (replayed-state reports) paths walk none-refused;
       planned-under = λ count runs.
           plan-gets (reading s) paths count start end walk b read few
-          (record { runs-area = runs-area; walk-area = walk-area; start-below = start-below; end-below = end-below; runs = runs });
-      checked-under = λ count runs w short is. check-gets s paths count w b read (record { runs-area = runs-area; runs = runs; short = short; walk = is });
+          (runs-area, (walk-area, (start-below, (end-below, (runs, tt)))));
+      checked-under = λ count runs w short is. check-gets s paths count w b read (runs-area, (runs, ((short, is), tt)));
     }
   where
     replayed-state : List ℕ → State

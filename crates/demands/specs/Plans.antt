@@ -32,7 +32,7 @@ use Rattle.trials.specs.Replanning.{chosen-planner, known-set}
 use Rattle.trial_rules.specs.Plans.{plan-best}
 use Rattle.states.specs.Chosen.{Decided}
 use Rattle.demands.specs.Refusals.{zero-one}
-use Rattle.demands.specs.Conditions.{unrefused}
+use Rattle.demands.specs.Conditions.{conditions}
 use Rattle.demands.specs.Answers.{WalkOrNone, binds, binds-valid, answers}
 
 -- ---- the statement
@@ -215,8 +215,7 @@ batch-plans s b read flags area fits n answer start end start-below end-below ol
         let (long-after, runs) = binds-valid s b read flags area fits in
         let spells : spelled (length F) after ≡ F = bind-accepted s flags area F (binds s b read flags area fits) .spells in
         let none-refused : refusalBy (planTests after (length F) start end old b) ≡ none =
-        unrefused (accepted b) .plan after (length F) start end old .1
-        (record { book = b; read = refl; asked = record { runs-area = long-after; walk-area = long; start-below = start-below; end-below = end-below; runs = runs } }) in
+        conditions (accepted b) .plan after (length F) start end old .accepts .1 (b, refl, (long-after, (long, (start-below, (end-below, (runs, tt)))))) in
         known-plans b well flags start end start-below end-below old long r new
         (subst (λ G. Planned none (graph b) G start end old r new) spells
         (subst (λ o. Planned o (graph b) (spelled (length F) after) start end old r new) none-refused

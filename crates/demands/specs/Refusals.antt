@@ -3,7 +3,7 @@
 use Prim.Native.Nat.{ℕ, zero, suc, _-_}
 use mathlib.Core.Path.{_≡_, refl, ap, _∙_}
 use mathlib.Core.List.{List}
-use mathlib.Core.Logic.{_↔_, _⊎_, inl, inr}
+use mathlib.Core.Logic.{_↔_, Iff·trans, _⊎_, inl, inr}
 use mathlib.Core.Option.{Option, none, some, Option·none-ne-some}
 use native.Mathlib.Omega.{arith}
 use lib.ListN.{length}
@@ -11,7 +11,8 @@ use Rattle.walks.specs.Graph.{Graph}
 use Rattle.walks.specs.Walk.{Walk}
 use Rattle.book.specs.declared.Answer.{Answer}
 use Rattle.book.specs.declared.Refusal.{Refusal}
-use Rattle.book.specs.Book.{graph}
+use Rattle.book.specs.Refusal.{Test}
+use Rattle.book.specs.Book.{Book, graph}
 use Rattle.book.specs.Reading.{Reading, accepted, refused, reading, readAs, refusalOf, bookIn}
 use Rattle.rules.specs.declared.Bound.{Bound}
 use Rattle.rules.specs.Area.{spelled}
@@ -32,53 +33,72 @@ use Rattle.trials.specs.Operations.{answering, begunAs, firstState, beginning, 
 use Rattle.series.specs.Reports.{reportsOf}
 use Rattle.series.specs.Making.{replaying}
 use Rattle.states.specs.Chosen.{chosen}
+use Rattle.demands.specs.Conditions.{Condition, bindConditions, checkConditions, planConditions, beginConditions, reportConditions, Cause, Judges, conditions}
 
 -- ---- the statement
--- What the check answers for a walk: it is clear, or a path occurs in it.
-abbrev pub ClearOrOccurs : Checked → Type 0
-ClearOrOccurs c = (c ≡ Checked.Clear) ⊎ ((place : ℕ) × (size : ℕ) × (c ≡ Checked.Occurs place size))
+-- What begin, and begin with a list of reports, are refused for.
+abbrev pub tests-of-begin : ℕ → ℕ → List ℕ → List ℕ → Book → List Test
+tests-of-begin start end paths walk b = beginTests (graph b) start end paths walk
 
--- What an operation on bytes, or on a list, is refused for: the book's refusal, or the first of its tests in 01's order that fails.
-abbrev pub beginRefusal : List ℕ → ℕ → ℕ → List ℕ → List ℕ → Option Refusal
-beginRefusal s start end paths walk = refusalOf (reading s) (λ b. beginTests (graph b) start end paths walk)
-
--- An answer is the refusal x exactly where the tests say so; and then what was lent is as it was.
-pub record Refuses (answer : Type 0) (tests : Option Refusal) (x : Refusal) (kept : Type 0) : Type 0 where
-  pub exactly : answer ↔ (tests ≡ some x)
-  pub keeps : answer → kept
+-- An operation answers with the refusal x exactly where the one definition of what it is refused for gives x; and that is where the book is refused
+-- under x, or x has the number of the first condition that does not hold.
+pub record Exactly (r : Reading) (tests : Book → List Test) (conditions : Book → List Condition) (x : Refusal) (answer : Type 0) : Type 0 where
+  pub defined : answer ↔ (refusalOf r tests ≡ some x)
+  pub cause : answer ↔ Cause r conditions x
 
 pub record Refusals (s : List ℕ) (x : Refusal) : Type 0 where
-  -- 'Everything else gets its numbered refusal, under that refusal's stated condition and no other.' Reading and the check take no memory to write to.
+  -- 'Everything else gets its numbered refusal, under that refusal's stated condition and no other.'
   pub read : (readAs (reading s) ≡ Answer.Refused x) ↔ (reading s ≡ refused x)
-  pub check : (area : List ℕ) (count : ℕ) (w : List ℕ) → (checking s area count w ≡ Checked.Refused x) ↔ (refusalOf (reading s) (checkTests area count w) ≡ some x)
-  -- '.. and a refusal writes to no lent memory': to the runs area, ...
-  pub bind : (flags : ℕ) (area : List ℕ)
-      → Refuses (boundAs (binding s flags area) ≡ Bound.Refused x) (refusalOf (reading s) (bindTests area)) x (areaAfter (binding s flags area) area ≡ area)
-  -- ... to the line-up area, ...
+  pub bind : (flags : ℕ) (area : List ℕ) → Exactly (reading s) (bindTests area) (bindConditions area) x (boundAs (binding s flags area) ≡ Bound.Refused x)
+  pub check : (area : List ℕ) (count : ℕ) (w : List ℕ)
+      → Exactly (reading s) (checkTests area count w) (checkConditions area count w) x (checking s area count w ≡ Checked.Refused x)
   pub plan : (paths : List ℕ) (count start end : ℕ) (old : List ℕ) (r : Outcome) (new : List ℕ) → Planning s paths count start end old r new
-      → Refuses (r ≡ Outcome.Refused x) (refusalOf (reading s) (planTests paths count start end old)) x (new ≡ old)
+      → Exactly (reading s) (planTests paths count start end old) (planConditions paths count start end old) x (r ≡ Outcome.Refused x)
   pub plan-list : (n : ℕ) (xs : List Item) (paths : List ℕ) (count start end : ℕ) (old : List ℕ) (r : Outcome) (new : List ℕ)
       → PlanningOf (listing n xs) paths count start end old r new
-      → Refuses (r ≡ Outcome.Refused x) (refusalOf (listing n xs) (planTests paths count start end old)) x (new ≡ old)
-  -- ... to either area; ...
+      → Exactly (listing n xs) (planTests paths count start end old) (planConditions paths count start end old) x (r ≡ Outcome.Refused x)
   pub begin : (flags start end : ℕ) (paths walk : List ℕ)
-      → Refuses (beginning s flags start end paths walk .answer ≡ Begun.Refused x) (beginRefusal s start end paths walk) x
-      (beginning s flags start end paths walk ≡ answering (Begun.Refused x) paths walk)
+      → Exactly (reading s) (tests-of-begin start end paths walk) (beginConditions start end paths walk) x (beginning s flags start end paths walk .answer ≡ Begun.Refused x)
   pub replay : (flags start end : ℕ) (reports paths walk : List ℕ)
-      → Refuses (replaying s flags start end reports paths walk .answer ≡ Begun.Refused x) (beginRefusal s start end paths walk) x
-      (replaying s flags start end reports paths walk ≡ answering (Begun.Refused x) paths walk)
-  -- ... and 01: 'hands back as it came a record that the call took'. A report is passed, or failed with a named run.
-  pub report : (r : Record) (paths walk : List ℕ) (ρ : Report)
-      → Refuses ((r′ : Record) × (reporting s r paths walk ρ .answer ≡ Reported.Refused x r′)) (refusalOf (reading s) (reportTests r paths walk ρ)) x
-      (reporting s r paths walk ρ ≡ answering (Reported.Refused x r) paths walk)
+      → Exactly (reading s) (tests-of-begin start end paths walk) (beginConditions start end paths walk) x
+      (replaying s flags start end reports paths walk .answer ≡ Begun.Refused x)
+  -- A report is passed, or failed with a named run.
+  pub report : (q : Record) (paths walk : List ℕ) (ρ : Report)
+      → Exactly (reading s) (reportTests q paths walk ρ) (reportConditions q paths walk ρ) x
+      ((q′ : Record) × (reporting s q paths walk ρ .answer ≡ Reported.Refused x q′))
+  -- '.. and a refusal writes to no lent memory.' Reading and the check are lent none to write to. 01: it 'hands back as it came a record that the call took'.
+  pub bind-keeps : (flags : ℕ) (area : List ℕ) → boundAs (binding s flags area) ≡ Bound.Refused x → areaAfter (binding s flags area) area ≡ area
+  pub plan-keeps : (paths : List ℕ) (count start end : ℕ) (old : List ℕ) (r : Outcome) (new : List ℕ) → Planning s paths count start end old r new
+      → r ≡ Outcome.Refused x → new ≡ old
+  pub plan-list-keeps : (n : ℕ) (xs : List Item) (paths : List ℕ) (count start end : ℕ) (old : List ℕ) (r : Outcome) (new : List ℕ)
+      → PlanningOf (listing n xs) paths count start end old r new → r ≡ Outcome.Refused x → new ≡ old
+  pub begin-keeps : (flags start end : ℕ) (paths walk : List ℕ) → beginning s flags start end paths walk .answer ≡ Begun.Refused x
+      → beginning s flags start end paths walk ≡ answering (Begun.Refused x) paths walk
+  pub replay-keeps : (flags start end : ℕ) (reports paths walk : List ℕ) → replaying s flags start end reports paths walk .answer ≡ Begun.Refused x
+      → replaying s flags start end reports paths walk ≡ answering (Begun.Refused x) paths walk
+  pub report-keeps : (q : Record) (paths walk : List ℕ) (ρ : Report) → (q′ : Record) × (reporting s q paths walk ρ .answer ≡ Reported.Refused x q′)
+      → reporting s q paths walk ρ ≡ answering (Reported.Refused x q) paths walk
 
 -- ---- the proofs
+-- An answer that tells whether the definition gives x, and what it keeps then.
+record Tells (o : Option Refusal) (x : Refusal) (answer kept : Type 0) : Type 0 where
+  defined : answer ↔ (o ≡ some x)
+  keeps : answer → kept
+
+exactly : {r : Reading} {tests : Book → List Test} {conditions : Book → List Condition} {x : Refusal} {answer : Type 0}
+    → Judges r tests conditions → answer ↔ (refusalOf r tests ≡ some x) → Exactly r tests conditions x answer
+exactly {x = x} j d = record { defined = d; cause = Iff·trans d (j .refuses x) }
+
 pub zero-one : {A : Type 0} → _≡_ {A = ℕ} 0 1 → A
 zero-one e = absurd (omega arith)
 
 read-iff : (r : Reading) (x : Refusal) → (readAs r ≡ Answer.Refused x) ↔ (r ≡ refused x)
 read-iff (accepted b) x = (λ e. zero-one (cc), λ e. zero-one (cc))
 read-iff (refused y) x = (λ e. let same : y ≡ x = cc in ap refused same, λ e. let same : y ≡ x = cc in ap Answer.Refused same)
+
+-- What the check answers for a walk: it is clear, or a path occurs in it.
+abbrev pub ClearOrOccurs : Checked → Type 0
+ClearOrOccurs c = (c ≡ Checked.Clear) ⊎ ((place : ℕ) × (size : ℕ) × (c ≡ Checked.Occurs place size))
 
 -- What the check finds in a walk is no refusal.
 pub check-finds : (F : List (List ℕ)) (w : List ℕ) (k e : ℕ) → ClearOrOccurs (checkFrom F w k e)
@@ -98,39 +118,38 @@ check-iff : (o : Option Refusal) (F : List (List ℕ)) (w : List ℕ) (x : Refus
 check-iff none F w x = (λ e. absurd (found-unrefused (occurrence F w) (check-finds F w (length w) 1) x e), λ e. absurd (Option·none-ne-some _ e))
 check-iff (some y) F w x = (λ e. let same : y ≡ x = cc in ap some same, λ e. let same : y ≡ x = cc in ap Checked.Refused same)
 
-bind-refuses : (o : Option Refusal) (F : List (List ℕ)) (area : List ℕ) (x : Refusal)
-    → Refuses (boundAs (outcome o F) ≡ Bound.Refused x) o x (areaAfter (outcome o F) area ≡ area)
-bind-refuses none F area x = record { exactly = (λ e. zero-one (cc), λ e. absurd (Option·none-ne-some _ e)); keeps = λ e. zero-one (cc) }
-bind-refuses (some y) F area x =
-    record { exactly = (λ e. let same : y ≡ x = cc in ap some same, λ e. let same : y ≡ x = cc in ap Bound.Refused same); keeps = λ e. refl }
+bind-tells : (o : Option Refusal) (F : List (List ℕ)) (area : List ℕ) (x : Refusal) → Tells o x (boundAs (outcome o F) ≡ Bound.Refused x) (areaAfter (outcome o F) area ≡ area)
+bind-tells none F area x = record { defined = (λ e. zero-one (cc), λ e. absurd (Option·none-ne-some _ e)); keeps = λ e. zero-one (cc) }
+bind-tells (some y) F area x =
+    record { defined = (λ e. let same : y ≡ x = cc in ap some same, λ e. let same : y ≡ x = cc in ap Bound.Refused same); keeps = λ e. refl }
 
-plan-refuses : (o : Option Refusal) (g : Graph) (F : List (List ℕ)) (start end : ℕ) (old : List ℕ) (r : Outcome) (new : List ℕ) (x : Refusal)
-    → Planned o g F start end old r new → Refuses (r ≡ Outcome.Refused x) o x (new ≡ old)
-plan-refuses (some y) g F start end old r new x p =
-    record { exactly = (λ e. let same : y ≡ x = cc (p .0) in ap some same, λ e. let same : y ≡ x = cc in p .0 ∙ ap Outcome.Refused same); keeps = λ _. p .1 }
-plan-refuses none g F start end old (Outcome.Walk weight hops) new x p =
-    record { exactly = (λ e. zero-one (cc), λ e. absurd (Option·none-ne-some _ e)); keeps = λ e. zero-one (cc) }
-plan-refuses none g F start end old Outcome.Nothing new x p =
-    record { exactly = (λ e. zero-one (cc), λ e. absurd (Option·none-ne-some _ e)); keeps = λ _. p .1 }
-plan-refuses none g F start end old (Outcome.Refused y) new x p = absurd p
+plan-tells : (o : Option Refusal) (g : Graph) (F : List (List ℕ)) (start end : ℕ) (old : List ℕ) (r : Outcome) (new : List ℕ) (x : Refusal)
+    → Planned o g F start end old r new → Tells o x (r ≡ Outcome.Refused x) (new ≡ old)
+plan-tells (some y) g F start end old r new x p =
+    record { defined = (λ e. let same : y ≡ x = cc (p .0) in ap some same, λ e. let same : y ≡ x = cc in p .0 ∙ ap Outcome.Refused same); keeps = λ _. p .1 }
+plan-tells none g F start end old (Outcome.Walk weight hops) new x p =
+    record { defined = (λ e. zero-one (cc), λ e. absurd (Option·none-ne-some _ e)); keeps = λ e. zero-one (cc) }
+plan-tells none g F start end old Outcome.Nothing new x p =
+    record { defined = (λ e. zero-one (cc), λ e. absurd (Option·none-ne-some _ e)); keeps = λ _. p .1 }
+plan-tells none g F start end old (Outcome.Refused y) new x p = absurd p
 
-begin-refuses : (o : Option Refusal) (σ : State) (paths walk : List ℕ) (x : Refusal)
-    → Refuses (begunAs o σ paths walk .answer ≡ Begun.Refused x) o x (begunAs o σ paths walk ≡ answering (Begun.Refused x) paths walk)
-begin-refuses none σ paths walk x = record { exactly = (λ e. zero-one (cc), λ e. absurd (Option·none-ne-some _ e)); keeps = λ e. zero-one (cc) }
-begin-refuses (some y) σ paths walk x =
+begin-tells : (o : Option Refusal) (σ : State) (paths walk : List ℕ) (x : Refusal)
+    → Tells o x (begunAs o σ paths walk .answer ≡ Begun.Refused x) (begunAs o σ paths walk ≡ answering (Begun.Refused x) paths walk)
+begin-tells none σ paths walk x = record { defined = (λ e. zero-one (cc), λ e. absurd (Option·none-ne-some _ e)); keeps = λ e. zero-one (cc) }
+begin-tells (some y) σ paths walk x =
     record {
-      exactly = (λ e. let same : y ≡ x = cc in ap some same, λ e. let same : y ≡ x = cc in ap Begun.Refused same);
+      defined = (λ e. let same : y ≡ x = cc in ap some same, λ e. let same : y ≡ x = cc in ap Begun.Refused same);
       keeps = λ e. let same : y ≡ x = cc in ap (λ z. answering (Begun.Refused z) paths walk) same;
     }
 
-report-refuses : (o : Option Refusal) (σ : State) (r : Record) (paths walk : List ℕ) (x : Refusal)
-    → Refuses ((r′ : Record) × (reportedAs o σ r paths walk .answer ≡ Reported.Refused x r′)) o x (reportedAs o σ r paths walk ≡ answering (Reported.Refused x r) paths walk)
-report-refuses none σ r paths walk x =
-    record { exactly = (λ h. let e = h .1 in zero-one (cc e), λ e. absurd (Option·none-ne-some _ e)); keeps = λ h. let e = h .1 in zero-one (cc e) }
-report-refuses (some y) σ r paths walk x =
+report-tells : (o : Option Refusal) (σ : State) (q : Record) (paths walk : List ℕ) (x : Refusal)
+    → Tells o x ((q′ : Record) × (reportedAs o σ q paths walk .answer ≡ Reported.Refused x q′)) (reportedAs o σ q paths walk ≡ answering (Reported.Refused x q) paths walk)
+report-tells none σ q paths walk x =
+    record { defined = (λ h. let e = h .1 in zero-one (cc e), λ e. absurd (Option·none-ne-some _ e)); keeps = λ h. let e = h .1 in zero-one (cc e) }
+report-tells (some y) σ q paths walk x =
     record {
-      exactly = (λ h. let e = h .1 in let same : y ≡ x = cc e in ap some same, λ e. let same : y ≡ x = cc in (r, ap (λ z. Reported.Refused z r) same));
-      keeps = λ h. let e = h .1 in let same : y ≡ x = cc e in ap (λ z. answering (Reported.Refused z r) paths walk) same;
+      defined = (λ h. let e = h .1 in let same : y ≡ x = cc e in ap some same, λ e. let same : y ≡ x = cc in (q, ap (λ z. Reported.Refused z q) same));
+      keeps = λ h. let e = h .1 in let same : y ≡ x = cc e in ap (λ z. answering (Reported.Refused z q) paths walk) same;
     }
 
 -- Demand 1, of refusals.
@@ -138,17 +157,48 @@ pub refusals : (s : List ℕ) (x : Refusal) → Refusals s x
 refusals s x =
     record {
       read = read-iff (reading s) x;
-      check = λ area count w. check-iff (refusalOf (reading s) (checkTests area count w)) (spelled count area) w x;
-      bind = λ flags area. bind-refuses (refusalOf (reading s) (bindTests area)) (known flags (bookIn (reading s) .sets)) area x;
+      bind = λ flags area. exactly (conditions (reading s) .bind area) (tells-bind flags area .defined);
+      check = λ area count w.
+          exactly (conditions (reading s) .check area count w) (check-iff (refusalOf (reading s) (checkTests area count w)) (spelled count area) w x);
       plan = λ paths count start end old r new p.
-          plan-refuses (refusalOf (reading s) (planTests paths count start end old)) (graph (bookIn (reading s))) (spelled count paths) start end old r new x p;
+          exactly (conditions (reading s) .plan paths count start end old) (tells-plan (reading s) paths count start end old r new p .defined);
       plan-list = λ n xs paths count start end old r new p.
-          plan-refuses (refusalOf (listing n xs) (planTests paths count start end old)) (graph (bookIn (listing n xs))) (spelled count paths) start end old r new x p;
-      begin = λ flags start end paths walk. begin-refuses (beginRefusal s start end paths walk) (firstState (bookIn (reading s)) flags start end paths walk) paths walk x;
+          exactly (conditions (listing n xs) .plan paths count start end old) (tells-plan (listing n xs) paths count start end old r new p .defined);
+      begin = λ flags start end paths walk.
+          exactly (conditions (reading s) .begin start end paths walk) (begin-tells (refusalOf (reading s) (tests-of-begin start end paths walk)) (first flags start end paths walk) paths walk x .defined);
       replay = λ flags start end reports paths walk.
-          let g = graph (bookIn (reading s)) in
-          begin-refuses (beginRefusal s start end paths walk) (run g (chosen g) (firstState (bookIn (reading s)) flags start end paths walk) (reportsOf reports)) paths walk x;
-      report = λ r paths walk ρ.
-          let g = graph (bookIn (reading s)) in
-          report-refuses (refusalOf (reading s) (reportTests r paths walk ρ)) (step g (chosen g) (stateOf r paths walk) ρ) r paths walk x;
+          exactly (conditions (reading s) .begin start end paths walk)
+          (begin-tells (refusalOf (reading s) (tests-of-begin start end paths walk)) (last flags start end reports paths walk) paths walk x .defined);
+      report = λ q paths walk ρ. exactly (conditions (reading s) .report q paths walk ρ) (tells-report q paths walk ρ .defined);
+      bind-keeps = λ flags area. tells-bind flags area .keeps;
+      plan-keeps = λ paths count start end old r new p. tells-plan (reading s) paths count start end old r new p .keeps;
+      plan-list-keeps = λ n xs paths count start end old r new p. tells-plan (listing n xs) paths count start end old r new p .keeps;
+      begin-keeps = λ flags start end paths walk.
+          begin-tells (refusalOf (reading s) (tests-of-begin start end paths walk)) (first flags start end paths walk) paths walk x .keeps;
+      replay-keeps = λ flags start end reports paths walk.
+          begin-tells (refusalOf (reading s) (tests-of-begin start end paths walk)) (last flags start end reports paths walk) paths walk x .keeps;
+      report-keeps = λ q paths walk ρ. tells-report q paths walk ρ .keeps;
     }
+  where
+    g : Graph
+    g = graph (bookIn (reading s))
+
+    first : (flags start end : ℕ) (paths walk : List ℕ) → State
+    first flags start end paths walk = firstState (bookIn (reading s)) flags start end paths walk
+
+    last : (flags start end : ℕ) (reports paths walk : List ℕ) → State
+    last flags start end reports paths walk = run g (chosen g) (first flags start end paths walk) (reportsOf reports)
+
+    tells-bind : (flags : ℕ) (area : List ℕ)
+        → Tells (refusalOf (reading s) (bindTests area)) x (boundAs (binding s flags area) ≡ Bound.Refused x) (areaAfter (binding s flags area) area ≡ area)
+    tells-bind flags area = bind-tells (refusalOf (reading s) (bindTests area)) (known flags (bookIn (reading s) .sets)) area x
+
+    tells-plan : (y : Reading) (paths : List ℕ) (count start end : ℕ) (old : List ℕ) (r : Outcome) (new : List ℕ) → PlanningOf y paths count start end old r new
+        → Tells (refusalOf y (planTests paths count start end old)) x (r ≡ Outcome.Refused x) (new ≡ old)
+    tells-plan y paths count start end old r new p =
+        plan-tells (refusalOf y (planTests paths count start end old)) (graph (bookIn y)) (spelled count paths) start end old r new x p
+
+    tells-report : (q : Record) (paths walk : List ℕ) (ρ : Report)
+        → Tells (refusalOf (reading s) (reportTests q paths walk ρ)) x ((q′ : Record) × (reporting s q paths walk ρ .answer ≡ Reported.Refused x q′))
+        (reporting s q paths walk ρ ≡ answering (Reported.Refused x q) paths walk)
+    tells-report q paths walk ρ = report-tells (refusalOf (reading s) (reportTests q paths walk ρ)) (step g (chosen g) (stateOf q paths walk) ρ) q paths walk x
