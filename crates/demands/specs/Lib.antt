@@ -1,3 +1,6 @@
+-- The demands of paper 00, sentence by sentence, over the definitions that the operations' contracts name. Each file begins with its statement, a
+-- record with a part for each sentence, and ends with the theorem that gives it. Nothing stands on this crate.
+-- Demand 1: Conditions, Refusals, Answers. Demand 2: Marks, Plans, SheetOrder.
 pub mod Marks
 pub mod Conditions
 pub mod Refusals

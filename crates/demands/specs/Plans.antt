@@ -27,6 +27,9 @@ use Rattle.routes.specs.Plan.{PlannedWalk}
 use Rattle.planner.specs.declared.Outcome.{Outcome}
 use Rattle.planner.specs.Planning.{planTests, Planned, PlanningOf, Planning}
 use Rattle.planner.specs.RuleSets.{planned-same}
+use Rattle.listed.specs.declared.Arc.{Arc as Item}
+use Rattle.listed.specs.Listing.{listing}
+use Rattle.listed.specs.SameBook.{arcsOf, from-book}
 use Rattle.demands.specs.Marks.{Binds, binds-when, needs-nothing}
 use Rattle.trials.specs.Replanning.{chosen-planner, known-set}
 use Rattle.trial_rules.specs.Plans.{plan-best}
@@ -87,6 +90,9 @@ pub record BatchPlans (s : List ℕ) (b : Book) (flags : ℕ) (area : List ℕ) 
       → Planning s (areaAfter (binding s flags area) area) known′ start end old r′ new′ → (r ≡ r′) × (new ≡ new′)
   -- What it is.
   pub plans : (r : Outcome) (new : List ℕ) → Planning s (areaAfter (binding s flags area) area) known′ start end old r new → Plans b flags start end old r new
+  -- So is a plan from the book's changeovers as a list.
+  pub plans-list : (n : ℕ) (xs : List Item) → n ≡ b .count → arcsOf xs ≡ b .arcs → (r : Outcome) (new : List ℕ)
+      → PlanningOf (listing n xs) (areaAfter (binding s flags area) area) known′ start end old r new → Plans b flags start end old r new
   -- 01: 'A sheet that needs 0 binds every batch.'
   pub needs-0 : (set : RuleSet) → set .flags ≡ 0 → Binds set flags
 
@@ -203,6 +209,7 @@ batch-plans s b read flags area fits n answer start end start-below end-below ol
       answered = answers s b read flags start end start-below end-below area old fits long .planned .answered;
       one = one-plan s after (length (known flags (b .sets))) start end old;
       plans = under-known;
+      plans-list = λ k xs k-is same r new p. under-known r new (from-book s b read k xs k-is same after (length (known flags (b .sets))) start end old r new p);
       needs-0 = λ set e. needs-nothing set e flags;
     })
   where
