@@ -45,7 +45,8 @@ use Rattle.judging.specs.Judging.{stateOf}
 use Rattle.series.specs.Reports.{reportsOf}
 use Rattle.series.specs.Making.{replaying}
 use Rattle.demands.specs.Refusals.{ClearOrOccurs, check-finds, tests-of-begin, zero-one}
-use Rattle.demands.specs.Conditions.{planConditions, checkConditions, reportConditions, AllHold, conditions}
+use Rattle.demands.specs.Conditions.{AllHold}
+use Rattle.demands.specs.Asked.{planConditions, checkConditions, reportConditions, conditions}
 
 -- ---- the statement
 abbrev pub WalkOrNone : Outcome → Type 0

@@ -1,38 +1,16 @@
--- 01, 'Who can cause a refusal', of each operation: what it asks of what it is handed, in 01's order, with the number of the refusal where that is
--- not so. And that the tests which its contract names decide just this.
+-- Conditions, each with the number of the refusal where it does not hold: all hold, or the first that does not decides. And tests that decide them.
 use Prim.Native.Nat.{ℕ, _≤_, _<_}
-use mathlib.Core.Path.{_≡_, refl, sym, ap, ap₂, subst, _∙_}
+use mathlib.Core.Path.{_≡_, refl, sym, ap, ap₂, _∙_}
 use mathlib.Core.Bool.{Bool, true, false, cond, _&&_, true≢false}
-use mathlib.Core.List.{List, [], _∷_, _++_}
+use mathlib.Core.List.{List, [], _∷_}
 use mathlib.Core.Logic.{_↔_, _⊎_, inl, inr}
 use mathlib.Core.Option.{none, some, Option·none-ne-some}
-use native.Mathlib.Omega.{arith}
 use borrow.Author.Tests.{leb-true, le-leb, ltb-true, lt-ltb, eqb-true, eq-eqb}
-use lib.Dec.{leb, ltb}
-use lib.ListN.{length, drop, take-append-drop, length-map}
-use Rattle.limits.specs.Limits.{areaSize, longest, mostPaths}
-use Rattle.lists.specs.Test.{T→true, true→T, and-true}
-use Rattle.walks.specs.Graph.{Graph}
-use Rattle.walks.specs.Walk.{Walk, isWalk, isWalk→Walk, Walk→isWalk}
-use Rattle.walks.specs.Avoid.{Occurs, occurs, occurs→Occurs, Occurs→occurs}
+use lib.Dec.{eqb, leb, ltb}
+use Rattle.lists.specs.Test.{and-true}
 use Rattle.book.specs.declared.Refusal.{Refusal}
-use Rattle.book.specs.Refusal.{Test, numbered, firstFailure, order, inOrder, refusalBy}
-use Rattle.book.specs.Book.{Book, graph, IsPath, isPath}
-use Rattle.book.specs.BookLaws.{isPath→IsPath, IsPath→isPath}
-use Rattle.book.specs.Reading.{Reading, accepted, refused, refusalOf}
-use Rattle.rules.specs.Area.{written, blocks, spelled, valid}
-use Rattle.rules.specs.AreaLaws.{length-blocks}
-use Rattle.rules.specs.ValidLaws.{Valid, valid→Valid, written-valid}
-use Rattle.rules.specs.Operations.{bindTests}
-use Rattle.walk_check.specs.Checking.{checkTests}
-use Rattle.planner.specs.Planning.{planTests}
-use Rattle.trial_record.specs.declared.Record.{Record}
-use Rattle.trial_rules.specs.Trials.{Report, passed, failed, State, standing, isForbiddenSet, isRecord, isValid, Valid as ValidState, isNamed, hasRoom, beginTests}
-use Rattle.trial_rules.specs.Tests.{once→Distinct, forbidden-set, →isForbiddenSet, isValid→Valid}
-use Rattle.judging.specs.Judging.{stateOf, reportTests}
-use Rattle.trials.specs.OperationLaws.{record-part}
+use Rattle.book.specs.Refusal.{Test, numbered, firstFailure}
 
--- ---- the conditions
 -- What is asked, and the refusal's number where it is not so.
 pub record Condition : Type 1 where
   pub number : ℕ
@@ -41,248 +19,62 @@ pub record Condition : Type 1 where
 abbrev pub asks : ℕ → Type 0 → Condition
 asks n C = record { number = n; holds = C }
 
--- 8: a runs area of 2,304 bytes or more.
-abbrev pub bindConditions : List ℕ → Book → List Condition
-bindConditions area b = asks 8 (areaSize ≤ length area) ∷ []
-
--- 9: the area holds, as entries, that many different runs that the book's rules take, at most 256, and no other byte that is not 0.
--- 10: not over 1,600 grades, and a line-up of the book.
-abbrev pub checkConditions : List ℕ → ℕ → List ℕ → Book → List Condition
-checkConditions area count w b =
-    asks 8 (areaSize ≤ length area) ∷ asks 9 (Valid (b .count) area count) ∷ asks 10 ((length w ≤ longest) × Walk (graph b) w) ∷ []
-
--- 7: start and end below the count.
-abbrev pub planConditions : List ℕ → ℕ → ℕ → ℕ → List ℕ → Book → List Condition
-planConditions paths count start end walk b =
-    asks 8 (areaSize ≤ length paths)
-    ∷ asks 8 (longest ≤ length walk)
-    ∷ asks 7 (start < b .count)
-    ∷ asks 7 (end < b .count)
-    ∷ asks 9 (Valid (b .count) paths count)
-    ∷ []
-
-abbrev pub beginConditions : ℕ → ℕ → List ℕ → List ℕ → Book → List Condition
-beginConditions start end paths walk b =
-    asks 8 (areaSize ≤ length paths) ∷ asks 8 (longest ≤ length walk) ∷ asks 7 (start < b .count) ∷ asks 7 (end < b .count) ∷ []
-
--- 12: a named run is one that the book's rules take, and stands in the standing line-up. 13: there is room for one more known run.
-abbrev pub Names : Graph → State → Report → Type 0
-Names g σ passed = Unit {0}
-Names g σ (failed p) = IsPath (g .count) p × Occurs p (standing σ)
-
-abbrev pub Room : State → Report → Type 0
-Room σ passed = Unit {0}
-Room σ (failed p) = σ .rec .known < mostPaths
-
--- 9, of a record: `ValidState` has its parts. 11: a line-up stands.
-abbrev pub reportConditions : Record → List ℕ → List ℕ → Report → Book → List Condition
-reportConditions r paths walk ρ b =
-    asks 8 (areaSize ≤ length paths)
-    ∷ asks 8 (longest ≤ length walk)
-    ∷ asks 9 (Valid (b .count) paths (r .known))
-    ∷ asks 9 (ValidState (graph b) (stateOf r paths walk))
-    ∷ asks 11 (r .stage ≡ 0)
-    ∷ asks 12 (Names (graph b) (stateOf r paths walk) ρ)
-    ∷ asks 13 (Room (stateOf r paths walk) ρ)
-    ∷ []
-
--- ---- the statement
 abbrev pub AllHold : List Condition → Type 0
 AllHold [] = Unit {0}
 AllHold (c ∷ cs) = c .holds × AllHold cs
 
--- x has the number of the first condition that does not hold.
-abbrev pub FirstFails : List Condition → Refusal → Type 0
-FirstFails [] x = ⊥
-FirstFails (c ∷ cs) x = ((c .holds → ⊥) × (x ≡ numbered (c .number) 0)) ⊎ (c .holds × FirstFails cs x)
-
--- There is a book, and all is as asked; or not: the reading is refused under x, or x is for the first condition that does not hold.
-abbrev pub Good : Reading → (Book → List Condition) → Type 0
-Good r conditions = (b : Book) × (r ≡ accepted b) × AllHold (conditions b)
-
-abbrev pub Cause : Reading → (Book → List Condition) → Refusal → Type 0
-Cause r conditions x = (r ≡ refused x) ⊎ ((b : Book) × (r ≡ accepted b) × FirstFails (conditions b) x)
-
-pub record Judges (r : Reading) (tests : Book → List Test) (conditions : Book → List Condition) : Type 0 where
-  pub accepts : (refusalOf r tests ≡ none) ↔ Good r conditions
-  pub refuses : (x : Refusal) → (refusalOf r tests ≡ some x) ↔ Cause r conditions x
-
--- Of what was read, from bytes or from a list.
-pub record Conditions (r : Reading) : Type 0 where
-  pub bind : (area : List ℕ) → Judges r (bindTests area) (bindConditions area)
-  pub check : (area : List ℕ) (count : ℕ) (w : List ℕ) → Judges r (checkTests area count w) (checkConditions area count w)
-  pub plan : (paths : List ℕ) (count start end : ℕ) (walk : List ℕ) → Judges r (planTests paths count start end walk) (planConditions paths count start end walk)
-  pub begin : (start end : ℕ) (paths walk : List ℕ) → Judges r (λ b. beginTests (graph b) start end paths walk) (beginConditions start end paths walk)
-  pub report : (q : Record) (paths walk : List ℕ) (ρ : Report) → Judges r (reportTests q paths walk ρ) (reportConditions q paths walk ρ)
+-- x has the number of the first condition that does not hold, and the place (0 where a refusal has none).
+abbrev pub FirstFails : ℕ → List Condition → Refusal → Type 0
+FirstFails at [] x = ⊥
+FirstFails at (c ∷ cs) x = ((c .holds → ⊥) × (x ≡ numbered (c .number) at)) ⊎ (c .holds × FirstFails at cs x)
 
 -- ---- tests that decide conditions
 -- One after the other: a test has to decide its condition only where those before it hold.
-abbrev Decides : List Test → List Condition → Type 0
-Decides [] [] = Unit {0}
-Decides [] (c ∷ cs) = ⊥
-Decides (t ∷ ts) [] = ⊥
-Decides (t ∷ ts) (c ∷ cs) = ((t .holds ≡ true) ↔ c .holds) × (t .refusal ≡ numbered (c .number) 0) × (c .holds → Decides ts cs)
+abbrev pub Decides : ℕ → List Test → List Condition → Type 0
+Decides at [] [] = Unit {0}
+Decides at [] (c ∷ cs) = ⊥
+Decides at (t ∷ ts) [] = ⊥
+Decides at (t ∷ ts) (c ∷ cs) = ((t .holds ≡ true) ↔ c .holds) × (t .refusal ≡ numbered (c .number) at) × (c .holds → Decides at ts cs)
 
-first-none : (ts : List Test) (cs : List Condition) → Decides ts cs → (firstFailure ts ≡ none) ↔ AllHold cs
-first-none [] [] d = (λ _. tt, λ _. refl)
-first-none [] (c ∷ cs) d = absurd d
-first-none (t ∷ ts) [] d = absurd d
-first-none (t ∷ ts) (c ∷ cs) (same, is, rest) = go (t .holds) refl (first-none ts cs)
+pub first-none : (at : ℕ) (ts : List Test) (cs : List Condition) → Decides at ts cs → (firstFailure ts ≡ none) ↔ AllHold cs
+first-none at [] [] d = (λ _. tt, λ _. refl)
+first-none at [] (c ∷ cs) d = absurd d
+first-none at (t ∷ ts) [] d = absurd d
+first-none at (t ∷ ts) (c ∷ cs) (same, is, rest) = go (t .holds) refl (first-none at ts cs)
   where
-    go : (h : Bool) → t .holds ≡ h → (Decides ts cs → (firstFailure ts ≡ none) ↔ AllHold cs)
+    go : (h : Bool) → t .holds ≡ h → (Decides at ts cs → (firstFailure ts ≡ none) ↔ AllHold cs)
         → (cond h (firstFailure ts) (some (t .refusal)) ≡ none) ↔ (c .holds × AllHold cs)
     go true e later = (λ q. (same .0 e, later (rest (same .0 e)) .0 q), λ a. later (rest (a .0)) .1 (a .1))
     go false e later = (λ q. absurd (Option·none-ne-some _ (sym q)), λ a. absurd (true≢false (sym (same .1 (a .0)) ∙ e)))
 
-first-some : (ts : List Test) (cs : List Condition) (x : Refusal) → Decides ts cs → (firstFailure ts ≡ some x) ↔ FirstFails cs x
-first-some [] [] x d = (Option·none-ne-some x, λ a. absurd a)
-first-some [] (c ∷ cs) x d = absurd d
-first-some (t ∷ ts) [] x d = absurd d
-first-some (t ∷ ts) (c ∷ cs) x (same, is, rest) = go (t .holds) refl (first-some ts cs x)
+pub first-some : (at : ℕ) (ts : List Test) (cs : List Condition) (x : Refusal) → Decides at ts cs → (firstFailure ts ≡ some x) ↔ FirstFails at cs x
+first-some at [] [] x d = (Option·none-ne-some x, λ a. absurd a)
+first-some at [] (c ∷ cs) x d = absurd d
+first-some at (t ∷ ts) [] x d = absurd d
+first-some at (t ∷ ts) (c ∷ cs) x (same, is, rest) = go (t .holds) refl (first-some at ts cs x)
   where
-    go : (h : Bool) → t .holds ≡ h → (Decides ts cs → (firstFailure ts ≡ some x) ↔ FirstFails cs x)
-        → (cond h (firstFailure ts) (some (t .refusal)) ≡ some x) ↔ FirstFails (c ∷ cs) x
+    go : (h : Bool) → t .holds ≡ h → (Decides at ts cs → (firstFailure ts ≡ some x) ↔ FirstFails at cs x)
+        → (cond h (firstFailure ts) (some (t .refusal)) ≡ some x) ↔ FirstFails at (c ∷ cs) x
     go true e later = (λ q. inr (same .0 e, later (rest (same .0 e)) .0 q), back)
       where
-        back : FirstFails (c ∷ cs) x → firstFailure ts ≡ some x
+        back : FirstFails at (c ∷ cs) x → firstFailure ts ≡ some x
         back (inl (no-c, _)) = absurd (no-c (same .0 e))
         back (inr (yes-c, f)) = later (rest yes-c) .1 f
     go false e later = (λ q. let at : t .refusal ≡ x = cc q in inl (λ a. true≢false (sym (same .1 a) ∙ e), sym at ∙ is), back)
       where
-        back : FirstFails (c ∷ cs) x → some (t .refusal) ≡ some x
+        back : FirstFails at (c ∷ cs) x → some (t .refusal) ≡ some x
         back (inl (_, at)) = ap some (is ∙ sym at)
         back (inr (yes-c, _)) = absurd (true≢false (sym (same .1 yes-c) ∙ e))
 
-module _ (tests : Book → List Test) (conditions : Book → List Condition) (decides : (b : Book) → Decides (inOrder order (tests b)) (conditions b)) where
-  judges : (r : Reading) → Judges r tests conditions
-  judges r = record { accepts = (good r, λ h. subst (λ q. refusalOf q tests ≡ none) (sym (h .1)) (holds (h .0) .1 (h .2))); refuses = λ x. (cause r x, from x) }
-    where
-      holds : (b : Book) → (refusalBy (tests b) ≡ none) ↔ AllHold (conditions b)
-      holds b = first-none (inOrder order (tests b)) (conditions b) (decides b)
-
-      fails : (b : Book) (x : Refusal) → (refusalBy (tests b) ≡ some x) ↔ FirstFails (conditions b) x
-      fails b x = first-some (inOrder order (tests b)) (conditions b) x (decides b)
-
-      good : (q : Reading) → refusalOf q tests ≡ none → Good q conditions
-      good (accepted b) e = (b, refl, holds b .0 e)
-      good (refused y) e = absurd (Option·none-ne-some y (sym e))
-
-      cause : (q : Reading) (x : Refusal) → refusalOf q tests ≡ some x → Cause q conditions x
-      cause (accepted b) x e = inr (b, refl, fails b x .0 e)
-      cause (refused y) x e = let same : y ≡ x = cc in inl (ap refused same)
-
-      from : (x : Refusal) → Cause r conditions x → refusalOf r tests ≡ some x
-      from x (inl e) = ap (λ q. refusalOf q tests) e
-      from x (inr (b, e, f)) = subst (λ q. refusalOf q tests ≡ some x) (sym e) (fails b x .1 f)
-
--- ---- each test
-le-iff : (a b : ℕ) → (leb a b ≡ true) ↔ (a ≤ b)
+-- ---- tests on numbers
+pub le-iff : (a b : ℕ) → (leb a b ≡ true) ↔ (a ≤ b)
 le-iff a b = (leb-true a b, le-leb a b)
 
-lt-iff : (a b : ℕ) → (ltb a b ≡ true) ↔ (a < b)
+pub lt-iff : (a b : ℕ) → (ltb a b ≡ true) ↔ (a < b)
 lt-iff a b = (ltb-true a b, lt-ltb a b)
 
-and-iff : {A B : Type 0} (x y : Bool) → (x ≡ true) ↔ A → (y ≡ true) ↔ B → (x && y ≡ true) ↔ (A × B)
+pub eq-iff : (a b : ℕ) → (eqb a b ≡ true) ↔ (a ≡ b)
+eq-iff a b = (eqb-true a b, eq-eqb a b)
+
+pub and-iff : {A B : Type 0} (x y : Bool) → (x ≡ true) ↔ A → (y ≡ true) ↔ B → (x && y ≡ true) ↔ (A × B)
 and-iff x y a b = (λ e. let (p, q) = and-true x y e in (a .0 p, b .0 q), λ h. ap₂ _&&_ (a .1 (h .0)) (b .1 (h .1)))
-
-Valid→valid : (v : ℕ) (area : List ℕ) (count : ℕ) → Valid v area count → valid v area count ≡ true
-Valid→valid v area count h =
-    let F = spelled count area in
-    let size : length F ≡ count = length-map (blocks count area) _ ∙ length-blocks count area in
-    let area-is : written F ++ drop areaSize area ≡ area = ap (λ l. l ++ drop areaSize area) (sym (h .bytes)) ∙ take-append-drop areaSize area in
-    sym (ap₂ (valid v) area-is size) ∙ written-valid v F (omega (arith, size, h .few)) (h .paths) (h .different) (drop areaSize area)
-
-valid-iff : (v : ℕ) (area : List ℕ) (count : ℕ) → (valid v area count ≡ true) ↔ Valid v area count
-valid-iff v area count = (valid→Valid v area count, Valid→valid v area count)
-
-walk-iff : (g : Graph) (w : List ℕ) → (isWalk g w ≡ true) ↔ Walk g w
-walk-iff g w = (λ e. isWalk→Walk w (true→T _ e), λ h. T→true _ (Walk→isWalk w h))
-
--- where the runs area is valid, the record's tests decide the rest of 9
-record-iff : (b : Book) (r : Record) (paths walk : List ℕ) → Valid (b .count) paths (r .known) → (isRecord (graph b) (stateOf r paths walk) ≡ true) ↔ ValidState (graph b) (stateOf r paths walk)
-unfolding isValid
-record-iff b r paths walk v = (λ e. isValid→Valid (graph b) σ (true→T _ (ap₂ _&&_ (ap₂ _&&_ set (eq-eqb _ _ (sym size))) e)), record-part (graph b) σ)
-  where
-    σ : State
-    σ = stateOf r paths walk
-
-    size : length (σ .forbidden) ≡ r .known
-    size = length-map (blocks (r .known) paths) _ ∙ length-blocks (r .known) paths
-
-    set : isForbiddenSet (b .count) (σ .forbidden) ≡ true
-    set = T→true _ (→isForbiddenSet (b .count) (σ .forbidden) (forbidden-set (b .count) (σ .forbidden) (omega (arith, size, v .few)) (once→Distinct _ (true→T _ (v .different))) (v .paths)))
-
-names-iff : (g : Graph) (σ : State) (ρ : Report) → (isNamed g σ ρ ≡ true) ↔ Names g σ ρ
-names-iff g σ passed = (λ _. tt, λ _. refl)
-names-iff g σ (failed p) =
-    and-iff (isPath (g .count) p) (occurs p (standing σ)) (isPath→IsPath (g .count) p, IsPath→isPath (g .count) p)
-    (λ e. occurs→Occurs p (standing σ) (true→T _ e), λ o. T→true _ (Occurs→occurs p (standing σ) o))
-
-room-iff : (σ : State) (ρ : Report) → (hasRoom σ ρ ≡ true) ↔ Room σ ρ
-room-iff σ passed = (λ _. tt, λ _. refl)
-room-iff σ (failed p) = lt-iff (σ .rec .known) mostPaths
-
--- ---- each operation
-bind-decides : (area : List ℕ) (b : Book) → Decides (bindTests area b) (bindConditions area b)
-bind-decides area b = (le-iff areaSize (length area), refl, λ _. tt)
-
-check-decides : (area : List ℕ) (count : ℕ) (w : List ℕ) (b : Book) → Decides (checkTests area count w b) (checkConditions area count w b)
-check-decides area count w b = (
-  le-iff areaSize (length area),
-  refl,
-  λ _. (
-    valid-iff (b .count) area count,
-    refl,
-    λ _. (and-iff (leb (length w) longest) (isWalk (graph b) w) (le-iff (length w) longest) (walk-iff (graph b) w), refl, λ _. tt),
-  ),
-)
-
-plan-decides : (paths : List ℕ) (count start end : ℕ) (walk : List ℕ) (b : Book) → Decides (planTests paths count start end walk b) (planConditions paths count start end walk b)
-plan-decides paths count start end walk b = (
-  le-iff areaSize (length paths),
-  refl,
-  λ _. (
-    le-iff longest (length walk),
-    refl,
-    λ _. (lt-iff start (b .count), refl, λ _. (lt-iff end (b .count), refl, λ _. (valid-iff (b .count) paths count, refl, λ _. tt))),
-  ),
-)
-
-begin-decides : (start end : ℕ) (paths walk : List ℕ) (b : Book) → Decides (beginTests (graph b) start end paths walk) (beginConditions start end paths walk b)
-begin-decides start end paths walk b = (
-  le-iff areaSize (length paths),
-  refl,
-  λ _. (le-iff longest (length walk), refl, λ _. (lt-iff start (b .count), refl, λ _. (lt-iff end (b .count), refl, λ _. tt))),
-)
-
-report-decides : (r : Record) (paths walk : List ℕ) (ρ : Report) (b : Book) → Decides (reportTests r paths walk ρ b) (reportConditions r paths walk ρ b)
-report-decides r paths walk ρ b =
-    let σ = stateOf r paths walk in (
-      le-iff areaSize (length paths),
-      refl,
-      λ _. (
-        le-iff longest (length walk),
-        refl,
-        λ _. (
-          valid-iff (b .count) paths (r .known),
-          refl,
-          λ v. (
-            record-iff b r paths walk v,
-            refl,
-            λ _. ((eqb-true (r .stage) 0, eq-eqb (r .stage) 0), refl, λ _. (names-iff (graph b) σ ρ, refl, λ _. (room-iff σ ρ, refl, λ _. tt))),
-          ),
-        ),
-      ),
-    )
-
-pub conditions : (r : Reading) → Conditions r
-conditions r =
-    record {
-      bind = λ area. judges (bindTests area) (bindConditions area) (bind-decides area) r;
-      check = λ area count w. judges (checkTests area count w) (checkConditions area count w) (check-decides area count w) r;
-      plan = λ paths count start end walk.
-          judges (planTests paths count start end walk) (planConditions paths count start end walk) (plan-decides paths count start end walk) r;
-      begin = λ start end paths walk.
-          judges (λ b. beginTests (graph b) start end paths walk) (beginConditions start end paths walk) (begin-decides start end paths walk) r;
-      report = λ q paths walk ρ. judges (reportTests q paths walk ρ) (reportConditions q paths walk ρ) (report-decides q paths walk ρ) r;
-    }

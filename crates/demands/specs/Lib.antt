@@ -3,6 +3,7 @@
 -- Demand 1: Conditions, Refusals, Answers. Demand 2: Marks, Plans, SheetOrder.
 pub mod Marks
 pub mod Conditions
+pub mod Asked
 pub mod Refusals
 pub mod Answers
 pub mod Plans

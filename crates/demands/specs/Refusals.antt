@@ -33,7 +33,8 @@ use Rattle.trials.specs.Operations.{answering, begunAs, firstState, beginning, 
 use Rattle.series.specs.Reports.{reportsOf}
 use Rattle.series.specs.Making.{replaying}
 use Rattle.states.specs.Chosen.{chosen}
-use Rattle.demands.specs.Conditions.{Condition, bindConditions, checkConditions, planConditions, beginConditions, reportConditions, Cause, Judges, conditions}
+use Rattle.demands.specs.Conditions.{Condition}
+use Rattle.demands.specs.Asked.{bindConditions, checkConditions, planConditions, beginConditions, reportConditions, Cause, Judges, conditions}
 
 -- ---- the statement
 -- What begin, and begin with a list of reports, are refused for.
