@@ -44,8 +44,8 @@ use Rattle.trials.specs.Operations.{begunAs, firstState, beginning, reportedAs,
 use Rattle.judging.specs.Judging.{stateOf}
 use Rattle.series.specs.Reports.{reportsOf}
 use Rattle.series.specs.Making.{replaying}
-use Rattle.demands.specs.Refusals.{ClearOrOccurs, check-finds, tests-of-begin, zero-one}
-use Rattle.demands.specs.Conditions.{AllHold}
+use Rattle.demands.specs.Refusals.{ClearOrOccurs, check-finds, tests-of-begin}
+use Rattle.demands.specs.Conditions.{AllHold, zero-one}
 use Rattle.demands.specs.Asked.{planConditions, checkConditions, reportConditions, conditions}
 
 -- ---- the statement

@@ -5,6 +5,7 @@ use mathlib.Core.Bool.{Bool, true, false, cond, _&&_, true≢false}
 use mathlib.Core.List.{List, [], _∷_}
 use mathlib.Core.Logic.{_↔_, _⊎_, inl, inr}
 use mathlib.Core.Option.{none, some, Option·none-ne-some}
+use native.Mathlib.Omega.{arith}
 use borrow.Author.Tests.{leb-true, le-leb, ltb-true, lt-ltb, eqb-true, eq-eqb}
 use lib.Dec.{eqb, leb, ltb}
 use Rattle.lists.specs.Test.{and-true}
@@ -67,6 +68,9 @@ first-some at (t ∷ ts) (c ∷ cs) x (same, is, rest) = go (t .holds) refl (fir
         back (inr (yes-c, _)) = absurd (true≢false (sym (same .1 yes-c) ∙ e))
 
 -- ---- tests on numbers
+pub zero-one : {A : Type 0} → _≡_ {A = ℕ} 0 1 → A
+zero-one e = absurd (omega arith)
+
 pub le-iff : (a b : ℕ) → (leb a b ≡ true) ↔ (a ≤ b)
 le-iff a b = (leb-true a b, le-leb a b)
 

@@ -34,7 +34,7 @@ use Rattle.demands.specs.Marks.{Binds, binds-when, needs-nothing}
 use Rattle.trials.specs.Replanning.{chosen-planner, known-set}
 use Rattle.trial_rules.specs.Plans.{plan-best}
 use Rattle.states.specs.Chosen.{Decided}
-use Rattle.demands.specs.Refusals.{zero-one}
+use Rattle.demands.specs.Conditions.{zero-one}
 use Rattle.demands.specs.Asked.{conditions}
 use Rattle.demands.specs.Answers.{WalkOrNone, binds, binds-valid, answers}
 

@@ -1,11 +1,10 @@
 -- Demand 1: 'Everything else gets its numbered refusal, under that refusal's stated condition and no other, and a refusal writes to no lent
--- memory.' What is refused, for each operation: exactly what its tests say, in their order; and a refusal leaves every lent byte and the record.
+-- memory.' Of each operation: when it answers with a refusal, and that a refusal leaves every lent byte and the record.
 use Prim.Native.Nat.{ℕ, zero, suc, _-_}
 use mathlib.Core.Path.{_≡_, refl, ap, _∙_}
 use mathlib.Core.List.{List}
 use mathlib.Core.Logic.{_↔_, Iff·trans, _⊎_, inl, inr}
 use mathlib.Core.Option.{Option, none, some, Option·none-ne-some}
-use native.Mathlib.Omega.{arith}
 use lib.ListN.{length}
 use Rattle.walks.specs.Graph.{Graph}
 use Rattle.walks.specs.Walk.{Walk}
@@ -33,7 +32,8 @@ use Rattle.trials.specs.Operations.{answering, begunAs, firstState, beginning, 
 use Rattle.series.specs.Reports.{reportsOf}
 use Rattle.series.specs.Making.{replaying}
 use Rattle.states.specs.Chosen.{chosen}
-use Rattle.demands.specs.Conditions.{Condition}
+use Rattle.demands.specs.Conditions.{Condition, zero-one}
+use Rattle.demands.specs.Fields.{BadBook, BadList, bad-book, bad-list}
 use Rattle.demands.specs.Asked.{bindConditions, checkConditions, planConditions, beginConditions, reportConditions, Cause, Judges, conditions}
 
 -- ---- the statement
@@ -49,7 +49,10 @@ pub record Exactly (r : Reading) (tests : Book → List Test) (conditions : Book
 
 pub record Refusals (s : List ℕ) (x : Refusal) : Type 0 where
   -- 'Everything else gets its numbered refusal, under that refusal's stated condition and no other.'
+  -- A book, and a list of changeovers, is refused for its first bad field or item.
   pub read : (readAs (reading s) ≡ Answer.Refused x) ↔ (reading s ≡ refused x)
+  pub read-cause : (reading s ≡ refused x) ↔ BadBook s x
+  pub list-cause : (n : ℕ) (xs : List Item) → (listing n xs ≡ refused x) ↔ BadList n xs x
   pub bind : (flags : ℕ) (area : List ℕ) → Exactly (reading s) (bindTests area) (bindConditions area) x (boundAs (binding s flags area) ≡ Bound.Refused x)
   pub check : (area : List ℕ) (count : ℕ) (w : List ℕ)
       → Exactly (reading s) (checkTests area count w) (checkConditions area count w) x (checking s area count w ≡ Checked.Refused x)
@@ -89,9 +92,6 @@ record Tells (o : Option Refusal) (x : Refusal) (answer kept : Type 0) : Type 0 
 exactly : {r : Reading} {tests : Book → List Test} {conditions : Book → List Condition} {x : Refusal} {answer : Type 0}
     → Judges r tests conditions → answer ↔ (refusalOf r tests ≡ some x) → Exactly r tests conditions x answer
 exactly {x = x} j d = record { defined = d; cause = Iff·trans d (j .refuses x) }
-
-pub zero-one : {A : Type 0} → _≡_ {A = ℕ} 0 1 → A
-zero-one e = absurd (omega arith)
 
 read-iff : (r : Reading) (x : Refusal) → (readAs r ≡ Answer.Refused x) ↔ (r ≡ refused x)
 read-iff (accepted b) x = (λ e. zero-one (cc), λ e. zero-one (cc))
@@ -158,6 +158,8 @@ pub refusals : (s : List ℕ) (x : Refusal) → Refusals s x
 refusals s x =
     record {
       read = read-iff (reading s) x;
+      read-cause = bad-book s x;
+      list-cause = λ n xs. bad-list n xs x;
       bind = λ flags area. exactly (conditions (reading s) .bind area) (tells-bind flags area .defined);
       check = λ area count w.
           exactly (conditions (reading s) .check area count w) (check-iff (refusalOf (reading s) (checkTests area count w)) (spelled count area) w x);

@@ -33,7 +33,7 @@ use Rattle.trial_rules.specs.Tests.{set-paths, set-once}
 use Rattle.trials.specs.declared.Begun.{Begun}
 use Rattle.trials.specs.Operations.{Leaves, begunAs, beginningOf, beginning}
 use Rattle.trials.specs.Replanning.{known-set}
-use Rattle.demands.specs.Refusals.{zero-one}
+use Rattle.demands.specs.Conditions.{zero-one}
 use Rattle.demands.specs.Answers.{binds}
 use Rattle.demands.specs.Plans.{count-is}
 
