@@ -2,7 +2,7 @@
 -- sizes set there, gets a line-up or the answer none.' What is answered where nothing is refused.
 use Prim.Native.Nat.{ℕ, suc, _≤_, _<_}
 use mathlib.Core.Path.{_≡_, refl, sym, ap, subst, _∙_}
-use mathlib.Core.List.{List, [], _∷_, _++_}
+use mathlib.Core.List.{List, [], _∷_, _++_, List·Permᴰ}
 use mathlib.Core.Logic.{_⊎_, inl, inr}
 use mathlib.Core.Option.{Option, none, some, Option·none-ne-some}
 use native.Mathlib.Omega.{arith}
@@ -65,8 +65,8 @@ pub record Answers (s : List ℕ) (b : Book) (flags start end : ℕ) (paths walk
   pub bound : boundAs (binding s flags paths) ≡ Bound.Known (length (known flags (b .sets)))
   -- Planning under what binding left answers a line-up or none ...
   pub planned : GetsPlan (Planning s (areaAfter (binding s flags paths) paths) (length (known flags (b .sets))) start end walk)
-  -- ... and so does planning from the book's changeovers as a list.
-  pub planned-list : (n : ℕ) (xs : List Item) → n ≡ b .count → arcsOf xs ≡ b .arcs
+  -- ... and so does planning from the book's changeovers as a list, in any order.
+  pub planned-list : (n : ℕ) (xs : List Item) → n ≡ b .count → List·Permᴰ (b .arcs) (arcsOf xs)
       → GetsPlan (PlanningOf (listing n xs) (areaAfter (binding s flags paths) paths) (length (known flags (b .sets))) start end walk)
   -- The check of a line-up under what binding left answers that it is clear, or where a run stands.
   pub checked : (w : List ℕ) → length w ≤ longest → Walk (graph b) w
@@ -184,7 +184,7 @@ answers s b read flags start end start-below end-below paths walk runs-area walk
           plan-gets (reading s) after n start end walk b read few
           (long, (walk-area, (start-below, (end-below, (runs, tt)))));
       planned-list = λ k xs k-is same.
-          plan-gets (listing k xs) after n start end walk (record { count = b .count; arcs = b .arcs; sets = [] }) (ap (λ m. listing m xs) k-is ∙ listed-book s b read xs same) few
+          plan-gets (listing k xs) after n start end walk (record { count = b .count; arcs = arcsOf xs; sets = [] }) (ap (λ m. listing m xs) k-is ∙ listed-book s b read xs same) few
           (long, (walk-area, (start-below, (end-below, (runs, tt)))));
       checked = λ w short is. check-gets s after n w b read (long, (runs, ((short, is), tt)));
       begun = begun-gets (refusalOf (reading s) (tests-of-begin start end paths walk)) (firstState (bookIn (reading s)) flags start end paths walk) paths walk none-refused;

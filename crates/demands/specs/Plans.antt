@@ -2,7 +2,7 @@
 -- defines it.' Said with the sheets of a book; the known runs stand nowhere in it.
 use Prim.Native.Nat.{ℕ, suc, _≤_, _<_}
 use mathlib.Core.Path.{_≡_, refl, sym, ap, subst, subst₂, _∙_}
-use mathlib.Core.List.{List, List·Memᴰ}
+use mathlib.Core.List.{List, List·Memᴰ, List·Permᴰ}
 use mathlib.Core.Logic.{_↔_, inl, inr}
 use mathlib.Core.Option.{none}
 use native.Mathlib.Omega.{arith}
@@ -91,7 +91,7 @@ pub record BatchPlans (s : List ℕ) (b : Book) (flags : ℕ) (area : List ℕ) 
   -- What it is.
   pub plans : (r : Outcome) (new : List ℕ) → Planning s (areaAfter (binding s flags area) area) known′ start end old r new → Plans b flags start end old r new
   -- So is a plan from the book's changeovers as a list.
-  pub plans-list : (n : ℕ) (xs : List Item) → n ≡ b .count → arcsOf xs ≡ b .arcs → (r : Outcome) (new : List ℕ)
+  pub plans-list : (n : ℕ) (xs : List Item) → n ≡ b .count → List·Permᴰ (b .arcs) (arcsOf xs) → (r : Outcome) (new : List ℕ)
       → PlanningOf (listing n xs) (areaAfter (binding s flags area) area) known′ start end old r new → Plans b flags start end old r new
   -- 01: 'A sheet that needs 0 binds every batch.'
   pub needs-0 : (set : RuleSet) → set .flags ≡ 0 → Binds set flags
