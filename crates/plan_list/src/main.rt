@@ -1,34 +1,120 @@
-// Plans from lists of six arcs: book A's, without runs and under the runs 0 1 2 3 and 0 2 3; then bad counts, bad items, a repeated
-// pair and bad ends.
+// Plans from each list of a stream of frames. A frame has the count of vertices in two bytes (high byte first, as all numbers here), start,
+// end, the count of known runs in two, the lengths of the line-up area and of the runs area in two each, the runs area, and then the
+// list: six bytes an item, of which the last four are the weight. What is left after the last whole item is no item.
+ghost use Prim.Native.Nat.{_+_, _*_, _≤_, _<_};
+ghost use mathlib.Core.Path.{_≡_};
+ghost use lib.ListN.{length, take, getD};
 ghost use Rattle.planner.specs.Planning.{PlanningOf};
 ghost use Rattle.listed.specs.Listing.{listing};
-ghost use Rattle.examples.specs.Listed.{arcsA};
-ghost use mathlib.Core.Path.{_≡_};
+ghost use Rattle.plan_list.specs.Items.{firstItems, itemOf, itemsIn, itemsOf, mostItems};
+use book::Refusal;
+use cases::Next;
+use cases::long;
 use cases::number;
 use cases::text;
 use cases::write_walk;
-use limits::AREA;
 use limits::LONGEST;
 use listed::Arc;
+use lists::wide;
 use planner::Outcome;
 
-fn arc(tail: u8, head: u8, weight: u32) -> Arc
-    ensures { λ r. ⌜ r ≡ record { tail = tail; head = head; weight = weight } ⌝ }
+// How many items of a list are looked at: more than there are pairs, so that no list goes on so long without a bad item.
+const MOST_ITEMS: usize = 4100;
+
+// The bytes of a frame before its runs area.
+const HEAD: usize = 10;
+
+// The longest frame: as many bytes as `plan` reads.
+const LONGEST_CASE: usize = 65_536;
+
+// The longest area for the walk.
+const SPACE: usize = 65_536;
+
+// Two bytes as a number.
+fn pair(bytes: &[u8], at: usize) -> usize
+    requires { ⌜ at + 1 < length (now bytes) ⌝ }
+    ensures { λ r. ⌜ r ≡ getD (now (bytes .entry)) at 0 * 256 + getD (now (bytes .entry)) (at + 1) 0 ⌝ }
+    ensures { λ r. ⌜ r < 65536 ⌝ }
 {
-    Arc { tail, head, weight }
+    wide(bytes[at]) * 256 + wide(bytes[at + 1])
 }
 
-fn arcs_a() -> [Arc; 6]
-    ensures { λ r. ⌜ r ≡ arcsA ⌝ }
+// The item at the front of some bytes.
+fn item(bytes: &[u8]) -> Arc
+    requires { ⌜ 6 ≤ length (now bytes) ⌝ }
+    ensures { λ r. ⌜ r ≡ itemOf (now (bytes .entry)) ⌝ }
 {
-    [
-        arc(0, 1, 100),
-        arc(1, 2, 100),
-        arc(2, 3, 100),
-        arc(0, 2, 250),
-        arc(2, 1, 50),
-        arc(1, 3, 400),
-    ]
+    Arc {
+        tail: bytes[0],
+        head: bytes[1],
+        weight: long(bytes[2], bytes[3], bytes[4], bytes[5]) as u32,
+    }
+}
+
+// How many items a list of that many bytes has.
+fn items_in(size: usize) -> usize
+    ensures { λ r. ⌜ r ≡ itemsIn size ⌝ }
+{
+    let whole = size / 6;
+    if MOST_ITEMS < whole {
+        return MOST_ITEMS;
+    }
+    whole
+}
+
+// The first n items of a list, and no matter what after them.
+fn items(bytes: &[u8], n: usize) -> [Arc; MOST_ITEMS]
+    requires { ⌜ n ≤ mostItems ⌝ }
+    requires { ⌜ n * 6 ≤ length (now bytes) ⌝ }
+    ensures { λ r. ⌜ take n r ≡ firstItems n (now (bytes .entry)) ⌝ }
+{
+    let none = Arc {
+        tail: 0,
+        head: 0,
+        weight: 0,
+    };
+    let mut arcs = [none; MOST_ITEMS];
+    let mut i = 0;
+    while i < n {
+        let at = i * 6;
+        arcs[i] = item(&bytes[at..]);
+        i += 1;
+    }
+    arcs
+}
+
+// Lends the first n arcs as a list.
+fn plan_first(
+    vertices: usize,
+    arcs: [Arc; MOST_ITEMS],
+    n: usize,
+    paths: &[u8],
+    count: usize,
+    start: u8,
+    end: u8,
+    walk: &mut [u8],
+) -> Outcome
+    requires { ⌜ n ≤ mostItems ⌝ }
+    ensures { λ r. ⌜ PlanningOf (listing vertices (take n arcs)) (now (paths .entry)) count start end (now (walk .entry)) r (now (walk .exit)) ⌝ }
+{
+    listed::plan_arcs(vertices, &arcs[..n], paths, count, start, end, walk)
+}
+
+// Plans from a list in bytes.
+fn plan_items(
+    vertices: usize,
+    bytes: &[u8],
+    paths: &[u8],
+    count: usize,
+    start: u8,
+    end: u8,
+    walk: &mut [u8],
+) -> Outcome
+    ensures { λ r. ⌜ PlanningOf (listing vertices (itemsOf (now (bytes .entry)))) (now (paths .entry)) count start end (now (walk .entry)) r (now (walk .exit)) ⌝ }
+{
+    let n = items_in(bytes.len());
+    let arcs = items(bytes, n);
+    plan_first(vertices, arcs, n, paths, count, start, end, walk)
 }
 
 fn write_outcome(outcome: Outcome, walk: &[u8]) {
@@ -48,72 +134,61 @@ fn write_outcome(outcome: Outcome, walk: &[u8]) {
     }
 }
 
-// Lends six arcs as a list.
-fn plan_six(
+// Plans into the front of an area, of that length, and prints the answer.
+fn plan_case(
     vertices: usize,
-    arcs: [Arc; 6],
+    list: &[u8],
     paths: &[u8],
     count: usize,
     start: u8,
     end: u8,
-    walk: &mut [u8],
-) -> Outcome
-    ensures { λ r. ⌜ PlanningOf (listing vertices arcs) (now (paths .entry)) count start end (now (walk .entry)) r (now (walk .exit)) ⌝ }
+    room: usize,
+    space: &mut [u8],
+)
+    requires { ⌜ room ≤ length (now space) ⌝ }
 {
-    listed::plan_arcs(vertices, &arcs, paths, count, start, end, walk)
+    let walk = &mut space[0..room];
+    let outcome = plan_items(vertices, list, paths, count, start, end, walk);
+    write_outcome(outcome, walk);
 }
 
-fn try_list(vertices: usize, arcs: [Arc; 6], paths: &[u8; AREA], count: usize, start: u8, end: u8) {
-    let mut walk = [0u8; LONGEST];
-    let outcome = plan_six(vertices, arcs, paths, count, start, end, &mut walk);
-    write_outcome(outcome, &walk);
-}
-
-// Book A's arcs with item i replaced.
-fn try_item(i: usize, item: Arc) {
-    let paths = [0u8; AREA];
-    let mut arcs = arcs_a();
-    if i < 6 {
-        arcs[i] = item;
+// Takes a frame apart. One that is shorter than its lengths say is refusal 1 at 0.
+fn list_case(frame: &[u8]) {
+    let size = frame.len();
+    if size < HEAD {
+        cases::refusal(Refusal::Truncated(0));
+        return;
     }
-    try_list(4, arcs, &paths, 0, 0, 3);
-}
-
-// Book A's arcs under its two runs.
-fn try_runs() {
-    let mut paths = [0u8; AREA];
-    paths[0] = 4;
-    paths[2] = 1;
-    paths[3] = 2;
-    paths[4] = 3;
-    try_list(4, arcs_a(), &paths, 1, 0, 3);
-    paths[9] = 3;
-    paths[11] = 2;
-    paths[12] = 3;
-    try_list(4, arcs_a(), &paths, 2, 0, 3);
-    try_list(4, arcs_a(), &paths, 1, 0, 3);
-}
-
-// Other counts and ends.
-fn try_ends(vertices: usize, start: u8, end: u8) {
-    let paths = [0u8; AREA];
-    try_list(vertices, arcs_a(), &paths, 0, start, end);
+    let vertices = pair(frame, 0);
+    let count = pair(frame, 4);
+    let room = pair(frame, 6);
+    let area = pair(frame, 8);
+    if size - HEAD < area {
+        cases::refusal(Refusal::Truncated(0));
+        return;
+    }
+    let list = HEAD + area;
+    let mut space = [0u8; SPACE];
+    plan_case(
+        vertices,
+        &frame[list..],
+        &frame[HEAD..list],
+        count,
+        frame[2],
+        frame[3],
+        room,
+        &mut space,
+    );
 }
 
 fn main() {
-    try_ends(4, 0, 3);
-    try_runs();
-    try_ends(0, 0, 3);
-    try_ends(65, 0, 3);
-    try_ends(64, 0, 3);
-    try_ends(3, 0, 3);
-    try_item(0, arc(4, 1, 100));
-    try_item(1, arc(2, 2, 100));
-    try_item(5, arc(1, 3, 1_000_001));
-    try_item(5, arc(1, 3, 1_000_000));
-    try_item(5, arc(1, 2, 100));
-    try_item(3, arc(1, 2, 1_000_001));
-    try_ends(4, 3, 0);
-    try_ends(4, 3, 3);
-    try_ends(4, 4, 3);
+    let mut space = [0u8; LONGEST_CASE];
+    let buffer: &mut [u8] = &mut space;
+    for _ in 0..65536usize {
+        let next = cases::next_case(buffer);
+        let Next::Case(size) = next else {
+            return;
+        };
+        list_case(&buffer[..size]);
+    }
 }

@@ -26,8 +26,8 @@ pub fn case(kind: Kind, seed: u64, index: u64) -> Vec<u8> {
 
 /// A book that keeps the rules, and the start and end that it was made for, if
 /// any.
-struct Scene {
-    draft: Draft,
+pub struct Scene {
+    pub draft: Draft,
     made_for: Option<(u8, u8)>,
 }
 
@@ -38,7 +38,7 @@ impl From<Draft> for Scene {
 }
 
 /// Most scenes are tiny, a few large.
-fn any_scene(random: &mut Random) -> Scene {
+pub fn any_scene(random: &mut Random) -> Scene {
     match random.below(1000) {
         0 => generate::largest(random).into(),
         1..=20 => generate::typical(random).into(),
@@ -101,7 +101,7 @@ fn terminal(random: &mut Random, book: &Book) -> u8 {
 }
 
 /// Start and end: what the scene was made for, or any, mostly different.
-fn terminals(random: &mut Random, scene: &Scene) -> (u8, u8) {
+pub fn terminals(random: &mut Random, scene: &Scene) -> (u8, u8) {
     if let Some(terminals) = scene.made_for.filter(|_| random.chance(75)) {
         return terminals;
     }

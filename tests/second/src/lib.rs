@@ -19,6 +19,8 @@ pub mod frames;
 pub mod generate;
 pub mod inputs;
 pub mod kinds;
+pub mod list_inputs;
+pub mod lists;
 pub mod plan;
 pub mod programs;
 pub mod random;

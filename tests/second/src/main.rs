@@ -1,15 +1,18 @@
 //! `second KIND` answers one case, `second frames` a framed stream of cases,
+//! `second plan_lists` a framed stream of lists of changeovers,
 //! `second input NAME SEED` prints an input of the generator, and
 //! `second inputs NAME SEED COUNT` a framed stream of such inputs.
 
 use second::frames;
 use second::kinds::Kind;
+use second::lists;
 use second::samples;
 use std::io::{self, Read, Write};
 use std::process::ExitCode;
 
 const USAGE: &str = "usage: second plan|replay|check_lineup|read_book  one case
        second frames                   a framed stream of cases
+       second plan_lists               a framed stream of lists
        second input NAME SEED          an input for `plan`
        second inputs NAME SEED COUNT   a framed stream of such inputs, of COUNT seeds
 NAME is typical, largest, chain, upward, downward or winding.";
@@ -27,6 +30,7 @@ fn main() -> ExitCode {
 fn answer(words: &[&str]) -> Option<io::Result<Vec<u8>>> {
     match *words {
         ["frames"] => Some(input().map(|stream| frames::run(&stream).into_bytes())),
+        ["plan_lists"] => Some(input().map(|stream| lists::run(&stream).into_bytes())),
         [name] => answer_case(Kind::named(name)?),
         ["input", name, seed] => samples::speed_input(name, seed.parse().ok()?).map(Ok),
         ["inputs", name, seed, count] => {

@@ -6,6 +6,8 @@
 use second::frames;
 use second::inputs;
 use second::kinds::Kind;
+use second::list_inputs;
+use second::lists;
 use second::programs::MOST_INPUT;
 use second::vectors;
 use std::io::{self, Read, Write};
@@ -16,7 +18,8 @@ use std::time::{Duration, Instant};
 const USAGE: &str = "usage: compare [--limit SECONDS] KIND N SEED -- COMMAND WORDS...
        compare --show KIND SEED INDEX
 KIND is plan, replay, check_lineup or read_book: one process for each input;
-or plans, replays, check_lineups or read_books: framed streams of inputs.";
+or plans, replays, check_lineups or read_books: framed streams of inputs;
+or plan_lists: framed streams of lists.";
 
 /// How many cases a framed stream holds at most.
 const BATCH: u64 = 250;
@@ -43,8 +46,11 @@ fn main() -> ExitCode {
 }
 
 fn compare(task: &Task) -> ExitCode {
-    let different =
-        if task.framed { task.compare_streams() } else { task.compare_cases(0, task.count) };
+    let different = if task.inputs.framed() {
+        task.compare_streams()
+    } else {
+        task.compare_cases(0, task.count)
+    };
     println!("{}: {} inputs of seed {}, {different} different", task.name, task.count, task.seed);
     if different == 0 {
         ExitCode::SUCCESS
@@ -57,25 +63,66 @@ fn compare(task: &Task) -> ExitCode {
 fn show(words: &[&str]) -> Option<ExitCode> {
     match *words {
         ["--show", kind, seed, index] => {
-            let (kind, framed) = kind_named(kind)?;
-            let case = inputs::case(kind, seed.parse().ok()?, index.parse().ok()?);
-            let input = if framed { frames::frame(kind, &case) } else { case };
-            let written = io::stdout().write_all(&input).is_ok();
+            let inputs = Inputs::named(kind)?;
+            let case = inputs.case(seed.parse().ok()?, index.parse().ok()?);
+            let written = io::stdout().write_all(&inputs.join(&[case])).is_ok();
             Some(if written { ExitCode::SUCCESS } else { ExitCode::FAILURE })
         }
         _ => None,
     }
 }
 
-fn kind_named(name: &str) -> Option<(Kind, bool)> {
-    let single = Kind::named(name).map(|kind| (kind, false));
-    single.or_else(|| Kind::stream_named(name).map(|kind| (kind, true)))
+/// What a program is given.
+#[derive(Clone, Copy)]
+enum Inputs {
+    /// A case of a kind, by itself.
+    Single(Kind),
+    /// Frames with cases of a kind.
+    Framed(Kind),
+    /// Frames with lists of changeovers.
+    Lists,
+}
+
+impl Inputs {
+    fn named(name: &str) -> Option<Inputs> {
+        let single = Kind::named(name).map(Inputs::Single);
+        let framed = || Kind::stream_named(name).map(Inputs::Framed);
+        single.or_else(framed).or_else(|| (name == "plan_lists").then(|| Inputs::Lists))
+    }
+
+    fn case(self, seed: u64, index: u64) -> Vec<u8> {
+        match self {
+            Inputs::Single(kind) | Inputs::Framed(kind) => inputs::case(kind, seed, index),
+            Inputs::Lists => list_inputs::case(seed, index),
+        }
+    }
+
+    /// What a program reads for these cases; a single one by itself.
+    fn join(self, cases: &[Vec<u8>]) -> Vec<u8> {
+        match self {
+            Inputs::Single(_) => cases.concat(),
+            Inputs::Framed(kind) => frames::join(kind, cases),
+            Inputs::Lists => lists::join(cases),
+        }
+    }
+
+    /// What it is to print for that.
+    fn answer(self, input: &[u8]) -> String {
+        match self {
+            Inputs::Single(kind) => kind.run(input),
+            Inputs::Framed(_) => frames::run(input),
+            Inputs::Lists => lists::run(input),
+        }
+    }
+
+    fn framed(self) -> bool {
+        !matches!(self, Inputs::Single(_))
+    }
 }
 
 struct Task<'a> {
     name: &'a str,
-    kind: Kind,
-    framed: bool,
+    inputs: Inputs,
     count: u64,
     seed: u64,
     limit: Duration,
@@ -96,10 +143,10 @@ impl<'a> Task<'a> {
         };
         match words {
             [name, count, seed, "--", command @ ..] if !command.is_empty() => {
-                let (kind, framed) = kind_named(name)?;
+                let inputs = Inputs::named(name)?;
                 let (count, seed) = (count.parse().ok()?, seed.parse().ok()?);
                 let limit = Duration::from_secs(limit);
-                Some(Task { name, kind, framed, count, seed, limit, command })
+                Some(Task { name, inputs, count, seed, limit, command })
             }
             _ => None,
         }
@@ -122,13 +169,11 @@ impl<'a> Task<'a> {
     }
 
     fn case_difference(&self, index: u64) -> Option<Difference> {
-        let case = inputs::case(self.kind, self.seed, index);
-        if self.framed && case.len() > MOST_INPUT {
+        let case = self.inputs.case(self.seed, index);
+        if self.inputs.framed() && case.len() > MOST_INPUT {
             return None;
         }
-        let expected = self.kind.run(&case);
-        let input = if self.framed { frames::frame(self.kind, &case) } else { case };
-        self.difference(&input, &expected)
+        self.difference(&[case])
     }
 
     /// Compares whole streams; one that differs is gone through case by case.
@@ -155,14 +200,14 @@ impl<'a> Task<'a> {
     }
 
     fn stream_difference(&self, from: u64, to: u64) -> Option<Difference> {
-        let cases: Vec<Vec<u8>> =
-            (from..to).map(|index| inputs::case(self.kind, self.seed, index)).collect();
-        let stream = frames::join(self.kind, &vectors::fit_for_stream(cases));
-        self.difference(&stream, &frames::run(&stream))
+        let cases = (from..to).map(|index| self.inputs.case(self.seed, index)).collect();
+        self.difference(&vectors::fit_for_stream(cases))
     }
 
-    /// What is wrong with the command's answer to an input, if anything.
-    fn difference(&self, input: &[u8], expected: &str) -> Option<Difference> {
+    /// What is wrong with the command's answer to these cases, if anything.
+    fn difference(&self, cases: &[Vec<u8>]) -> Option<Difference> {
+        let input = &self.inputs.join(cases);
+        let expected = &self.inputs.answer(input);
         let text = match run(self.command, input, self.limit) {
             Ok(Run::Ended(status, _)) if !status.success() => format!("ended with {status}"),
             Ok(Run::Ended(_, output)) if output == expected.as_bytes() => return None,

@@ -1,6 +1,6 @@
--- `plan_six` meets its contract, which is that of `plan_arcs` at the six arcs.
+-- `plan_first` meets its contract, which is that of `plan_arcs` at the first n arcs.
 mod Derivation
-use mathlib.Core.Bool.{false}
+use mathlib.Core.Bool.{true, false}
 use contract.Running.{givenOf, tablesOf}
 use borrow.Fn.Run.{Over}
 use borrow.Fn.World.{World}
@@ -9,16 +9,16 @@ use Rattle.listed.proofs.Plans as plan-arcs
 use Rattle.listed.proofs.plan_arcs.Met as plan-arcs-thm
 use Rattle.listed.proofs.plan_arcs.Symbol as plan-arcs-def
 use Rattle.listed.proofs.plan_arcs.Symbol.{name as #plan-arcs}
-use Rattle.plan_list.proofs.plan_six.Key.{name as #plan-six}
-use Rattle.plan_list.proofs.plan_six.Kinds.{ps, r}
-use Rattle.plan_list.proofs.plan_six.Statement.{statement}
-use Rattle.plan_list.proofs.plan_six.Code as code
-use Rattle.plan_list.proofs.plan_six.Proof.Derivation.{Before, After, triple}
+use Rattle.plan_list.proofs.plan_first.Key.{name as #plan-first}
+use Rattle.plan_list.proofs.plan_first.Kinds.{ps, r}
+use Rattle.plan_list.proofs.plan_first.Statement.{statement}
+use Rattle.plan_list.proofs.plan_first.Code as code
+use Rattle.plan_list.proofs.plan_first.Proof.Derivation.{Before, After, triple}
 
-pub plan-six-spec : {M : Type 1} → statement M
+pub plan-first-spec : {M : Type 1} → statement M
 unfolding code.routine tablesOf
-plan-six-spec {M} 𝓤 H 𝓜 𝓖 𝓡 =
+plan-first-spec {M} 𝓤 H 𝓜 𝓖 𝓡 =
     let w : World = record { M = M; 𝓤 = 𝓤; H = H; 𝓜 = 𝓜; 𝓖 = 𝓖; 𝓡 = 𝓡 } in
-    close 2 ps r false Before After w code.env #plan-six code.function (code.unfolded 𝓤 H 𝓜 𝓡)
+    close 2 ps r true Before After w code.env #plan-first code.function (code.unfolded 𝓤 H 𝓜 𝓡)
     (triple 𝓤 H (𝓖 .A) (givenOf 𝓤 H 𝓜 𝓖) (Over 𝓤 H 𝓜 𝓖 𝓡 code.env)
     (known 3 plan-arcs.ps plan-arcs.r false plan-arcs.Before plan-arcs.After w code.env #plan-arcs plan-arcs-def.routine code.calls-listed·plan-arcs (plan-arcs-thm.met 𝓤 H 𝓜 𝓖 𝓡)))
