@@ -1,4 +1,4 @@
--- Worked examples, each by computation: no code's proof cites them, and of the programs only `plan_list`, which prints one. Sums has 01's starred sums; the others say what the definitions and the
+-- Worked examples, each by computation: no code's proof cites them. Sums has 01's starred sums; the others say what the definitions and the
 -- operations make of small books, or serve these.
 pub mod GraphA
 pub mod Certificate

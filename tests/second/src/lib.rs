@@ -2,9 +2,9 @@
 //! random books, vectors and comparisons that hold another planner against it.
 //!
 //! The planner: `book`, `changeovers`, `binding`, `check`, `plan`, `trials`,
-//! `text` and `programs`. Its own check: `exhaustive`. What feeds tests:
-//! `random`, `draft`, `generate`, `damage`, `inputs`, `samples`, `vectors`, `frames`
-//! and `kinds`.
+//! `text`, `programs` and `lists`. Its own check: `exhaustive`. What feeds tests:
+//! `random`, `draft`, `generate`, `damage`, `inputs`, `list_inputs`, `samples`,
+//! `vectors`, `frames` and `kinds`.
 
 #![forbid(unsafe_code)]
 

@@ -87,7 +87,7 @@ impl Inputs {
     fn named(name: &str) -> Option<Inputs> {
         let single = Kind::named(name).map(Inputs::Single);
         let framed = || Kind::stream_named(name).map(Inputs::Framed);
-        single.or_else(framed).or_else(|| (name == "plan_lists").then(|| Inputs::Lists))
+        single.or_else(framed).or_else(|| (name == "plan_lists").then_some(Inputs::Lists))
     }
 
     fn case(self, seed: u64, index: u64) -> Vec<u8> {
