@@ -72,7 +72,7 @@ module _ (n : ℕ) (few : n ≤ 64) where
   codes-distinct [] p q = tt
   codes-distinct (a ∷ arcs) p q = (code-new a (p .0) arcs (p .1) (q .0), codes-distinct arcs (p .1) (q .1))
 
-  few-arcs : (arcs : List Arc) → All (IsArc n) arcs → PairsOnce arcs → length arcs ≤ 4032
+  pub few-arcs : (arcs : List Arc) → All (IsArc n) arcs → PairsOnce arcs → length arcs ≤ 4032
   few-arcs arcs p q =
       omega (arith, length-map arcs (λ a. code (a .tail) (a .head)), pigeonhole 4032 (codes arcs) (codes-distinct arcs p q) (codes-below arcs p))
 

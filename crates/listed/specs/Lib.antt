@@ -5,3 +5,4 @@ pub mod Standing
 pub mod StandingLaws
 pub mod Reordered
 pub mod SameBook
+pub mod LongList

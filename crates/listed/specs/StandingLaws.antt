@@ -31,10 +31,10 @@ not-refused : (x : Refusal) → Good ≡ Refused x → ⊥
 not-refused x e = let z : _≡_ {A = ℕ} 0 1 = cc in omega arith
 
 -- ---- the count
-abbrev empty : ℕ → Book
+abbrev pub empty : ℕ → Book
 empty n = record { count = n; arcs = []; sets = [] }
 
-empty-well-formed : (n : ℕ) → 1 ≤ n → n ≤ mostVertices → WellFormed (empty n)
+pub empty-well-formed : (n : ℕ) → 1 ≤ n → n ≤ mostVertices → WellFormed (empty n)
 unfolding allPaths
 empty-well-formed n low high =
     record { few-vertices = high; counted = λ _. low; arcs-proper = tt; pairs-once = tt; few-sets = omega arith; few-paths = omega arith; paths-proper = tt }

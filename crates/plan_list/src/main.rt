@@ -3,10 +3,11 @@
 // list: six bytes an item, of which the last four are the weight. What is left after the last whole item is no item.
 ghost use Prim.Native.Nat.{_+_, _*_, _≤_, _<_};
 ghost use mathlib.Core.Path.{_≡_};
-ghost use lib.ListN.{length, take, getD};
+ghost use lib.ListN.{length, take};
+ghost use Rattle.book.specs.Reading.{u16At};
 ghost use Rattle.planner.specs.Planning.{PlanningOf};
 ghost use Rattle.listed.specs.Listing.{listing};
-ghost use Rattle.plan_list.specs.Items.{firstItems, itemOf, itemsIn, itemsOf, mostItems};
+ghost use Rattle.plan_list.specs.Items.{itemOf, firstItems, itemsOf, mostItems, itemsIn};
 use book::Refusal;
 use cases::Next;
 use cases::long;
@@ -18,7 +19,7 @@ use listed::Arc;
 use lists::wide;
 use planner::Outcome;
 
-// How many items of a list are looked at: more than there are pairs, so that no list goes on so long without a bad item.
+// How many items of a list are looked at: more than there are pairs, so that a longer list has a bad one among them.
 const MOST_ITEMS: usize = 4100;
 
 // The bytes of a frame before its runs area.
@@ -33,7 +34,7 @@ const SPACE: usize = 65_536;
 // Two bytes as a number.
 fn pair(bytes: &[u8], at: usize) -> usize
     requires { ⌜ at + 1 < length (now bytes) ⌝ }
-    ensures { λ r. ⌜ r ≡ getD (now (bytes .entry)) at 0 * 256 + getD (now (bytes .entry)) (at + 1) 0 ⌝ }
+    ensures { λ r. ⌜ r ≡ u16At (now (bytes .entry)) at ⌝ }
     ensures { λ r. ⌜ r < 65536 ⌝ }
 {
     wide(bytes[at]) * 256 + wide(bytes[at + 1])
@@ -51,7 +52,7 @@ fn item(bytes: &[u8]) -> Arc
     }
 }
 
-// How many items a list of that many bytes has.
+// How many items of a list of that many bytes are looked at.
 fn items_in(size: usize) -> usize
     ensures { λ r. ⌜ r ≡ itemsIn size ⌝ }
 {

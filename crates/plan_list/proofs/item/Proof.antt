@@ -1,14 +1,11 @@
 -- `item` meets its contract.
 use native.Mathlib.Omega.{arith}
-use mathlib.Core.Path.{ap}
+use mathlib.Core.Path.{_≡_, ap}
 use lib.ListN.{getD}
-use denote.Ref.{now}
 use borrow.Author.Needs.{needs}
+use Rattle.book.specs.Reading.{u32At}
 use Rattle.plan_list.proofs.item.Statement.{statement}
 use Rattle.plan_list.proofs.item.Tie as tie
-use Rattle.plan_list.proofs.item.Reads as reads
-use Rattle.plan_list.proofs.item.Lts as lts
-use Rattle.cases.proofs.long.Reads as long-reads
 
 shared-slice-read-t3 : tie.Need-shared-slice-read-t3
 shared-slice-read-t3 c = search needs
@@ -32,10 +29,15 @@ long-requires : tie.Need-long-requires
 long-requires c κs = search needs
 
 cast-t15 : tie.Need-cast-t15
-cast-t15 c = omega (arith, c .long .ensures, c .before .shared-slice-known7 .given 2, c .before .shared-slice-known7 .given 3, c .before .shared-slice-known7 .given 4, c .before .shared-slice-known7 .given 5)
+cast-t15 c =
+    let byte = c .before .shared-slice-known7 .given in
+    omega (arith, c .long .ensures, byte 2, byte 3, byte 4, byte 5)
 
 returns : tie.Need-returns
-returns c = ap (λ w. record { tail = getD (now (c .before .before .before .before .before .before .before .before .args .bytes)) 0 0; head = getD (now (c .before .before .before .before .before .before .before .before .args .bytes)) 1 0; weight = w }) (c .long .ensures)
+returns c =
+    let bytes = c .before .before .before .before .before .before .before .before .args .bytes .now in
+    let weight : c .long .result ≡ u32At bytes 2 = omega (arith, c .long .ensures) in
+    ap (λ w. record { tail = getD bytes 0 0; head = getD bytes 1 0; weight = w }) weight
 
 pub item-spec : {M : Type 1} → statement M
 item-spec =

@@ -1,25 +1,14 @@
 -- `items` meets its contract: after i turns the first i items stand in the array.
-use Prim.Native.Nat.{ℕ, _+_, _-_, _*_, _≤_}
+use Prim.Native.Nat.{_+_, _-_, _*_, _≤_}
 use native.Mathlib.Omega.{arith}
 use mathlib.Core.Path.{_≡_, refl, ap, _∙_, subst}
-use mathlib.Core.List.{List}
-use lib.ListN.{length, take, drop, set, length-set, length-drop}
-use lib.Seq.{take-all}
+use lib.ListN.{length, take, set, length-set}
 use borrow.Author.Needs.{needs}
+use Rattle.text.proofs.Parts.{part-rest, part-length}
 use Rattle.plan_list.specs.Items.{firstItems, itemOf, mostItems}
 use Rattle.plan_list.specs.ItemsLaws.{entered}
 use Rattle.plan_list.proofs.items.Statement.{statement}
 use Rattle.plan_list.proofs.items.Tie as tie
-use Rattle.plan_list.proofs.items.Reads as reads
-use Rattle.plan_list.proofs.items.Lts as lts
-use Rattle.plan_list.proofs.item.Reads as item-reads
-
--- a part to the end
-part-rest : (k : ℕ) (l : List ℕ) → take (length l - k) (drop k l) ≡ drop k l
-part-rest k l = take-all (length l - k) (drop k l) (omega (arith, length-drop k l))
-
-length-part : (k : ℕ) (l : List ℕ) → length (take (length l - k) (drop k l)) ≡ length l - k
-length-part k l = ap length (part-rest k l) ∙ length-drop k l
 
 abbrev Inv-loop : tie.InvT-loop
 Inv-loop bytes n arcs₀ i₀ arcs i = (i ≤ n) × (length arcs ≡ mostItems) × (take i arcs ≡ firstItems i bytes)
@@ -47,7 +36,7 @@ item-requires : tie.Need-item-requires Inv-loop μ-loop
 item-requires c κs =
     let bytes = c .before .before .before .before .args .bytes .now in
     let at = c .before .before .loop .i * 6 in
-    omega (arith, length-part at bytes)
+    omega (arith, part-length at bytes)
 
 mul-arcs : tie.Need-mul-arcs Inv-loop μ-loop
 mul-arcs c = search needs

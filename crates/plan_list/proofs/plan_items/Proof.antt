@@ -1,19 +1,14 @@
--- `plan_items` meets its contract.
+-- `plan_items` meets its contract: the items that are lent come to what the whole list comes to.
 use Prim.Native.Nat.{_*_, _≤_}
 use mathlib.Core.Path.{_≡_, sym, ap, subst, _∙_}
 use lib.ListN.{length, take}
 use borrow.Author.Needs.{needs}
 use Rattle.planner.specs.Planning.{PlanningOf}
 use Rattle.listed.specs.Listing.{listing}
-use Rattle.plan_list.specs.Items.{firstItems, itemsOf, mostItems}
-use Rattle.plan_list.specs.ItemsLaws.{items-fit}
+use Rattle.plan_list.specs.Items.{firstItems, itemsIn, mostItems}
+use Rattle.plan_list.specs.ItemsLaws.{items-fit, enough-items}
 use Rattle.plan_list.proofs.plan_items.Statement.{statement}
 use Rattle.plan_list.proofs.plan_items.Tie as tie
-use Rattle.plan_list.proofs.plan_items.Reads as reads
-use Rattle.plan_list.proofs.plan_items.Lts as lts
-use Rattle.plan_list.proofs.items.Reads as items-reads
-use Rattle.plan_list.proofs.items_in.Reads as items-in-reads
-use Rattle.plan_list.proofs.plan_first.Reads as plan-first-reads
 
 items-in-requires : tie.Need-items-in-requires
 items-in-requires c κs = search needs
@@ -36,9 +31,11 @@ returns c =
     let planned = c .before .before in
     let made = planned .before .before in
     let a = made .before .before .before .before .before .args in
-    let listed : take (made .before .items-in .result) (made .items .result) ≡ itemsOf (a .bytes .now) =
-    made .items .ensures ∙ ap (λ k. firstItems k (a .bytes .now)) (made .before .items-in .ensures) in
-    subst (λ l. PlanningOf (listing (a .vertices) l) (a .paths .now) (a .count) (a .start) (a .end) (a .walk .now) (planned .plan-first .result) (planned .plan-first .last .1 .1 .1 .1 .1 .1 .1 .0)) listed (planned .plan-first .ensures)
+    let bytes = a .bytes .now in
+    let lent : take (made .before .items-in .result) (made .items .result) ≡ firstItems (itemsIn (length bytes)) bytes =
+    made .items .ensures ∙ ap (λ k. firstItems k bytes) (made .before .items-in .ensures) in
+    subst (λ x. PlanningOf x (a .paths .now) (a .count) (a .start) (a .end) (a .walk .now) (planned .plan-first .result) (planned .plan-first .last .1 .1 .1 .1 .1 .1 .1 .0))
+    (ap (listing (a .vertices)) lent ∙ enough-items (a .vertices) bytes) (planned .plan-first .ensures)
 
 pub plan-items-spec : {M : Type 1} → statement M
 plan-items-spec = tie.close (tie.spec items-in-requires items-requires plan-first-requires same-length returns)
