@@ -36,11 +36,11 @@ module _ (k : ℕ) (fewer : (b : Book) → WellFormed b → length (b .arcs) < k
       go true false e f rest = rest (arc-well-formed (arcOf x) b w e f)
 
   pub first-items : (n : ℕ) (xs : List Item) → listing n (take k xs) ≡ listing n xs
-  first-items n xs = go (leb 1 n && leb n mostVertices) refl
+  first-items n xs = go _ (leb 1 n && leb n mostVertices) refl
     where
-      go : (x : Bool) → leb 1 n && leb n mostVertices ≡ x
-          → let after = outcome (firstFailure (testAt 0 4 x ∷ [])) (empty n) in andThen after (items 0 (take k xs)) ≡ andThen after (items 0 xs)
-      go false e = refl
-      go true e =
+      go : (i : ℕ) (x : Bool) → leb 1 n && leb n mostVertices ≡ x
+          → let after = outcome (firstFailure (testAt 0 4 x ∷ [])) (empty n) in andThen after (items i (take k xs)) ≡ andThen after (items i xs)
+      go i false e = refl
+      go i true e =
           let limits = and-true (leb 1 n) (leb n mostVertices) e in
-          front k 0 xs (empty n) (empty-well-formed n (leb-true _ _ (limits .0)) (leb-true _ _ (limits .1))) (omega arith)
+          front k i xs (empty n) (empty-well-formed n (leb-true _ _ (limits .0)) (leb-true _ _ (limits .1))) (omega arith)
