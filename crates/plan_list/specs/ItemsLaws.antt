@@ -11,7 +11,7 @@ use lib.Dec.{ltb}
 use lib.ListN.{length, take, drop, set}
 use lib.Seq.{drop-drop, take-suc-set}
 use Rattle.book.specs.Book.{Book, WellFormed}
-use Rattle.book_size.specs.BookSize.{few-arcs}
+use Rattle.book_bytes.specs.BookSize.{few-arcs}
 use Rattle.listed.specs.declared.Arc.{Arc as Item}
 use Rattle.listed.specs.Listing.{listing}
 use Rattle.listed.specs.LongList.{first-items}
