@@ -11,6 +11,7 @@ use lib.ListN.{length}
 use Rattle.lists.specs.Distinct.{distinct-length}
 use Rattle.walks.specs.Avoid.{Avoids·mono}
 use Rattle.walks.specs.Best.{Feasible}
+use Rattle.states.specs.Chosen.{chosen}
 use Rattle.book.specs.declared.Refusal.{Refusal}
 use Rattle.book.specs.declared.Refusal.the-variants.{Ended, NotStanding, Full}
 use Rattle.book.specs.Refusal.{numberOf, test, refusalBy}
@@ -18,15 +19,14 @@ use Rattle.book.specs.Book.{Book, WellFormed, graph}
 use Rattle.book.specs.Reading.{accepted, reading, refusalOf, bookIn}
 use Rattle.rules.specs.Binding.{known}
 use Rattle.rules.specs.Laws.{known→Applied, Applied→known}
-use Rattle.states.specs.Chosen.{chosen}
 use Rattle.trial_record.specs.declared.Record.{Record}
 use Rattle.trial_rules.specs.Trials.{Report, passed, failed, State, pathArea, isNamed, hasRoom, oracleTests, refusal, Valid, beginRefusal, unless, step, after, run, accepted as acceptedFrom, EachAccepted, Begin}
 use Rattle.trial_rules.specs.Lacking.{lacking, together, together-is, lacking-into, lacking-from, lacking-distinct}
 use Rattle.trial_rules.specs.Invariant.{Invariant}
 use Rattle.trial_rules.specs.Oracle.{TrueTo}
+use Rattle.judging.specs.Judging.{stateOf, reportTests}
 use Rattle.trials.specs.declared.Begun.{Begun}
 use Rattle.trials.specs.declared.Reported.{Reported}
-use Rattle.judging.specs.Judging.{stateOf, reportTests}
 use Rattle.trials.specs.Operations.{Leaves, answering, begunAs, beginning, beginningOf, reportedAs, reportingOf, reporting, firstState}
 use Rattle.trials.specs.OperationLaws.{same-step}
 use Rattle.trials.specs.Replanning.{known-set}

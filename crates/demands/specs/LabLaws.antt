@@ -8,11 +8,11 @@ use native.Mathlib.Omega.{arith}
 use lib.ListN.{length}
 use Rattle.lists.specs.Test.{true→T}
 use Rattle.walks.specs.Best.{Best, None}
+use Rattle.states.specs.Chosen.{chosen}
 use Rattle.book.specs.Book.{Book, WellFormed, graph}
 use Rattle.book.specs.BookLaws.{reading-is-book, IsPath→isPath}
 use Rattle.book.specs.Reading.{accepted, reading}
 use Rattle.rules.specs.Binding.{known}
-use Rattle.states.specs.Chosen.{chosen}
 use Rattle.trial_record.specs.declared.Record.{Record}
 use Rattle.trial_rules.specs.Trials.{Report, ForbiddenSet, step, Begin, begun, beginRefusal, stateAfter, acceptedOf}
 use Rattle.trial_rules.specs.Lacking.{lacking}
@@ -26,7 +26,7 @@ use Rattle.series.specs.Making.{replaying}
 use Rattle.series.specs.Whole.{leavesOf, reportsOn, opened, begin-leaves, reports-leave, replay-leaves}
 use Rattle.demands.specs.Calls.{AcceptedBegin, opening, acceptedOn, standingIn, TrueLab, LabSet}
 use Rattle.demands.specs.CallLaws.{how-many-once, many-of-either, many-labs-only, free→feasible, feasible→free, refused-kept, true-report, answer-is, only-three, begin-ok, replay-ok, accepted-are, true-lab}
-use Rattle.demands.specs.Labs.{AsRuled, LabOutcome, ReplayOutcome, Demand3}
+use Rattle.demands.specs.Demands.{AsRuled, LabOutcome, ReplayOutcome}
 
 module _ (β : AcceptedBegin) where
   open AcceptedBegin β using (bytes as s, book as b, read, flags, start, end, paths, walk, rec, answered)
@@ -153,9 +153,6 @@ module _ (β : AcceptedBegin) where
       where
         begunWith : Leaves Record → Leaves Begun
         begunWith m = answering (Begun.Record (m .answer)) (m .paths) (m .walk)
-
-pub demand-3 : Demand3
-demand-3 = record { after-calls = labs; after-replay = replay-labs; after-any = ruled }
 
 -- Where `series::replay` answers a record, begin was accepted.
 pub replay-begun : (s : List ℕ) (b : Book) → reading s ≡ accepted b → (flags start end : ℕ) (reports paths walk : List ℕ) (q : Record)

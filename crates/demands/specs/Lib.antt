@@ -1,13 +1,17 @@
+-- Meaning: Demands (the three demands, sentence by sentence), in the words of Marks (which sheets bind), Fields and Asked (what each refusal is for) and Calls (the
+-- answers to a list of reports, and true labs), with Conditions (a list of conditions, the first that fails). Theorems has the three theorems. Laws:
+-- the others lead to them; Witnesses shows on book A that demand 3's premises can be met. Nothing stands on this crate.
 pub mod Marks
 pub mod Conditions
 pub mod Fields
 pub mod Asked
-pub mod Refusals
-pub mod Answers
-pub mod Plans
-pub mod SheetOrder
 pub mod Calls
-pub mod Labs
+pub mod Demands
+pub mod RefusalLaws
+pub mod AnswerLaws
+pub mod PlanLaws
+pub mod SheetOrder
 pub mod CallLaws
 pub mod LabLaws
+pub mod Theorems
 pub mod Witnesses

@@ -1,4 +1,4 @@
--- Demand 2: 'Two accepted books that differ only in the order of their sheets give equal plans.' And equal counts of known runs, and equal trials.
+-- Demand 2, proved: two books that differ only in the order of their sheets have equal plans, counts of known runs, and trials.
 use Prim.Native.Nat.{ℕ, _≤_}
 use mathlib.Core.Path.{_≡_, refl, sym, ap, ap₂, subst, subst₂, _∙_}
 use mathlib.Core.List.{List, _++_}
@@ -11,6 +11,7 @@ use Rattle.lists.specs.Distinct.{distinct-length}
 use Rattle.walks.specs.Graph.{Graph, fromArcs}
 use Rattle.walks.specs.Avoid.{_⊆_}
 use Rattle.walks.specs.Best.{Best·unique, Best·not-None, Best·same-set}
+use Rattle.states.specs.Chosen.{Decided, chosen, chosen-is}
 use Rattle.book.specs.declared.Refusal.{Refusal}
 use Rattle.book.specs.Refusal.{refusalBy}
 use Rattle.book.specs.Book.{Book, WellFormed, graph}
@@ -22,7 +23,6 @@ use Rattle.rules.specs.Area.{written, spelled}
 use Rattle.rules.specs.Operations.{boundAs, binding, areaAfter}
 use Rattle.rules.specs.Laws.{same-set}
 use Rattle.rules.specs.ValidLaws.{written-length, written-spells}
-use Rattle.states.specs.Chosen.{Decided, chosen, chosen-is}
 use Rattle.walk_check.specs.Laws.{sizes}
 use Rattle.planner.specs.declared.Outcome.{Outcome}
 use Rattle.planner.specs.Planning.{Planning}
@@ -34,29 +34,9 @@ use Rattle.trials.specs.declared.Begun.{Begun}
 use Rattle.trials.specs.Operations.{Leaves, begunAs, beginningOf, beginning}
 use Rattle.trials.specs.Replanning.{known-set}
 use Rattle.demands.specs.Conditions.{zero-one}
-use Rattle.demands.specs.Answers.{binds}
-use Rattle.demands.specs.Plans.{count-is}
-
--- ---- the statement
--- Two begins leave the same trials: equal answers and line-up areas; and where it is a record, runs areas with the same runs, in another order
--- perhaps, and the same bytes after them.
-pub record SameTrials (l l′ : Leaves Begun) : Type 0 where
-  pub answers : l .answer ≡ l′ .answer
-  pub walks : l .walk ≡ l′ .walk
-  pub runs : (r : Record) → l .answer ≡ Begun.Record r → (spelled (r .known) (l .paths) ⊆ spelled (r .known) (l′ .paths)) × (spelled (r .known) (l′ .paths) ⊆ spelled (r .known) (l .paths))
-  pub beyond : drop areaSize (l .paths) ≡ drop areaSize (l′ .paths)
-
--- Of the bytes of two books.
-pub record SameAnswers (s s′ : List ℕ) : Type 0 where
-  pub counts : (flags : ℕ) (area area′ : List ℕ) → areaSize ≤ length area → areaSize ≤ length area′ → boundAs (binding s flags area) ≡ boundAs (binding s′ flags area′)
-  -- For every batch, start and end, and every line-up area, refusals included.
-  pub plans : (flags : ℕ) (area area′ : List ℕ) → areaSize ≤ length area → areaSize ≤ length area′
-      → (n n′ : ℕ) → boundAs (binding s flags area) ≡ Bound.Known n → boundAs (binding s′ flags area′) ≡ Bound.Known n′
-      → (start end : ℕ) (old : List ℕ) (r r′ : Outcome) (new new′ : List ℕ)
-      → Planning s (areaAfter (binding s flags area) area) n start end old r new
-      → Planning s′ (areaAfter (binding s′ flags area′) area′) n′ start end old r′ new′
-      → (r ≡ r′) × (new ≡ new′)
-  pub trials : (flags start end : ℕ) (paths walk : List ℕ) → SameTrials (beginning s flags start end paths walk) (beginning s′ flags start end paths walk)
+use Rattle.demands.specs.AnswerLaws.{binds}
+use Rattle.demands.specs.PlanLaws.{count-is}
+use Rattle.demands.specs.Demands.{SameTrials, SameAnswers}
 
 -- ---- begin, under two lists of the same paths
 module _ (g : Graph) (F G : List (List ℕ)) (more : F ⊆ G) (less : G ⊆ F) (s t : ℕ) where

@@ -7,10 +7,10 @@ use mathlib.Core.Option.{none, some}
 use native.Mathlib.Omega.{arith}
 use lib.Dec.{T}
 use lib.ListN.{length}
+use Rattle.limits.specs.Limits.{areaSize, longest}
 use Rattle.lists.specs.Test.{T→true}
 use Rattle.walks.specs.Avoid.{Occurs, occurs→Occurs, avoids→Avoids}
 use Rattle.walks.specs.Feasible.{isFeasible}
-use Rattle.limits.specs.Limits.{areaSize, longest}
 use Rattle.book.specs.declared.Refusal.{Refusal}
 use Rattle.book.specs.declared.Refusal.the-variants.{Ended, NotStanding}
 use Rattle.book.specs.Book.{isPath, simple, names}
@@ -30,7 +30,7 @@ use Rattle.examples.specs.Sums.{graphA, planA, well-A, begun-3, after-123, afte
 use Rattle.examples.specs.Trials.{not-there, too-late}
 use Rattle.demands.specs.Calls.{AcceptedBegin, opening, answerOn, answersOn, acceptedBy, acceptedOn, standingIn, TrueReport, TrueLab, LabSet}
 use Rattle.demands.specs.CallLaws.{many-of-either, refused-kept, report-is, answer-is}
-use Rattle.demands.specs.Labs.{LabOutcome}
+use Rattle.demands.specs.Demands.{LabOutcome}
 use Rattle.demands.specs.LabLaws.{labs}
 
 -- The runs that are named.

@@ -1,9 +1,8 @@
--- Demand 1: 'Every book .. that keeps the rules of document 01 is read, and every batch, start grade and end grade within it, with areas of the
--- sizes set there, gets a line-up or the answer none.' What is answered where nothing is refused.
+-- Demand 1, proved: what is answered where nothing is refused.
 use Prim.Native.Nat.{ℕ, suc, _≤_, _<_}
 use mathlib.Core.Path.{_≡_, refl, sym, ap, subst, _∙_}
-use mathlib.Core.List.{List, [], _∷_, _++_, List·Permᴰ}
-use mathlib.Core.Logic.{_⊎_, inl, inr}
+use mathlib.Core.List.{List, [], _∷_, _++_}
+use mathlib.Core.Logic.{inl, inr}
 use mathlib.Core.Option.{Option, none, some, Option·none-ne-some}
 use native.Mathlib.Omega.{arith}
 use borrow.Author.Tests.{leb-true}
@@ -14,69 +13,37 @@ use Rattle.lists.specs.Test.{and-true}
 use Rattle.walks.specs.Graph.{Graph}
 use Rattle.walks.specs.Walk.{Walk, weightOf, hops}
 use Rattle.states.specs.Chosen.{Decided, chosen, chosen-is}
-use Rattle.book.specs.declared.Answer.{Answer}
 use Rattle.book.specs.declared.Refusal.{Refusal}
 use Rattle.book.specs.Refusal.{firstFailure, refusalBy}
-use Rattle.book.specs.Book.{Book, counts, graph}
+use Rattle.book.specs.Book.{Book, graph}
 use Rattle.book.specs.RefusalLaws.{none→hold}
 use Rattle.book.specs.BookLaws.{reading-is-book}
 use Rattle.book.specs.Reading.{Reading, accepted, refused, reading, readAs, andThen, outcome, withArc, arcTests, addArc, refusalOf, bookIn}
-use Rattle.rules.specs.declared.Bound.{Bound}
 use Rattle.rules.specs.Binding.{known}
 use Rattle.rules.specs.Area.{blocks, spelled}
 use Rattle.rules.specs.AreaLaws.{length-blocks}
 use Rattle.rules.specs.ValidLaws.{Valid, valid→Valid}
 use Rattle.rules.specs.Operations.{Binding, bindTests, boundAs, bindingOf, binding, areaAfter}
-use Rattle.rules.specs.Operations
 use Rattle.rules.specs.Laws.{bind-accepted}
 use Rattle.walk_check.specs.Laws.{sizes}
 use Rattle.walk_check.specs.Checking.{verdict, occurrence, checkTests, checking}
 use Rattle.planner.specs.declared.Outcome.{Outcome}
-use Rattle.planner.specs.Planning.{planTests, Planned, PlanningOf, Planning}
+use Rattle.planner.specs.Planning.{planTests, Planned, PlanningOf}
 use Rattle.listed.specs.declared.Arc.{Arc as Item}
 use Rattle.listed.specs.Listing.{arcOf, counting, counted, items, listing}
 use Rattle.listed.specs.SameBook.{arcsOf, listed-book}
 use Rattle.trial_record.specs.declared.Record.{Record}
 use Rattle.trial_rules.specs.Trials.{Report, State, step, run}
+use Rattle.judging.specs.Judging.{stateOf}
 use Rattle.trials.specs.declared.Begun.{Begun}
 use Rattle.trials.specs.declared.Reported.{Reported}
-use Rattle.trials.specs.Operations.{begunAs, firstState, beginning, reportedAs, reporting}
-use Rattle.judging.specs.Judging.{stateOf}
+use Rattle.trials.specs.Operations.{begunAs, firstState, reportedAs, reporting}
 use Rattle.series.specs.Reports.{reportsOf}
-use Rattle.series.specs.Making.{replaying}
-use Rattle.demands.specs.Refusals.{ClearOrOccurs, check-finds, tests-of-begin}
+use Rattle.demands.specs.Demands.{ClearOrOccurs, tests-of-begin, WalkOrNone, GetsPlan, Answers}
+use Rattle.demands.specs.RefusalLaws.{check-finds}
 use Rattle.demands.specs.Conditions.{AllHold, zero-one}
 use Rattle.demands.specs.Asked.{planConditions, checkConditions, reportConditions, conditions}
-
--- ---- the statement
-abbrev pub WalkOrNone : Outcome → Type 0
-WalkOrNone r = ((weight : ℕ) × (hops′ : ℕ) × (r ≡ Outcome.Walk weight hops′)) ⊎ (r ≡ Outcome.Nothing)
-
--- P says which answers planning gives and what the line-up area holds then: there is such an answer, and each is a walk or none.
-pub record GetsPlan (P : Outcome → List ℕ → Type 0) : Type 0 where
-  pub answered : (r : Outcome) × (new : List ℕ) × P r new
-  pub each : (r : Outcome) (new : List ℕ) → P r new → WalkOrNone r
-
--- A book b, a batch with these flags, start and end; the runs area and the line-up area as lent.
-pub record Answers (s : List ℕ) (b : Book) (flags start end : ℕ) (paths walk : List ℕ) : Type 0 where
-  -- The book is read: the counts of grades, changeovers, sheets and runs are answered.
-  pub read : readAs (reading s) ≡ Answer.Read (counts b)
-  -- Binding answers the count of known runs.
-  pub bound : boundAs (binding s flags paths) ≡ Bound.Known (length (known flags (b .sets)))
-  -- Planning under what binding left answers a line-up or none ...
-  pub planned : GetsPlan (Planning s (areaAfter (binding s flags paths) paths) (length (known flags (b .sets))) start end walk)
-  -- ... and so does planning from the book's changeovers as a list, in any order.
-  pub planned-list : (n : ℕ) (xs : List Item) → n ≡ b .count → List·Permᴰ (b .arcs) (arcsOf xs)
-      → GetsPlan (PlanningOf (listing n xs) (areaAfter (binding s flags paths) paths) (length (known flags (b .sets))) start end walk)
-  -- The check of a line-up under what binding left answers that it is clear, or where a run stands.
-  pub checked : (w : List ℕ) → length w ≤ longest → Walk (graph b) w
-      → ClearOrOccurs (checking s (areaAfter (binding s flags paths) paths) (length (known flags (b .sets))) w)
-  -- Begin answers a record, and so does begin with any list of reports.
-  pub begun : (r : Record) × (beginning s flags start end paths walk .answer ≡ Begun.Record r)
-  pub replayed : (reports : List ℕ) → (r : Record) × (replaying s flags start end reports paths walk .answer ≡ Begun.Record r)
-  -- Planning and the check answer under every valid runs area, not only under what binding left.
-  pub planned-under : (count : ℕ) → Valid (b .count) paths count → GetsPlan (Planning s paths count start end walk)
-  pub checked-under : (count : ℕ) → Valid (b .count) paths count → (w : List ℕ) → length w ≤ longest → Walk (graph b) w → ClearOrOccurs (checking s paths count w)
+use Rattle.rules.specs.Operations
 
 -- ---- planning
 -- Where nothing is refused, the best walk or its absence is an answer, and there is no other kind.

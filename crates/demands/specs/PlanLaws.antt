@@ -1,21 +1,21 @@
--- Demand 2: 'A plan under the known runs that binding gives is a shortest path avoiding forbidden subpaths, as source document 000 section 1.2
--- defines it.' Said with the sheets of a book; the known runs stand nowhere in it.
+-- Demand 2, proved: a plan is the shortest of the line-ups that are allowed.
 use Prim.Native.Nat.{ℕ, suc, _≤_, _<_}
 use mathlib.Core.Path.{_≡_, refl, sym, ap, subst, subst₂, _∙_}
-use mathlib.Core.List.{List, List·Memᴰ, List·Permᴰ}
-use mathlib.Core.Logic.{_↔_, inl, inr}
+use mathlib.Core.List.{List}
+use mathlib.Core.Logic.{inl, inr}
 use mathlib.Core.Option.{none}
 use native.Mathlib.Omega.{arith}
-use lib.ListN.{length, getD, take, drop, length-append, length-drop}
+use lib.ListN.{length, take, drop, length-append, length-drop}
 use lib.Seq.{take-at, drop-at}
 use Rattle.limits.specs.Limits.{areaSize, longest}
 use Rattle.walks.specs.Graph.{Graph}
 use Rattle.walks.specs.Walk.{Walk, weightOf, hops, hops-length}
-use Rattle.walks.specs.Avoid.{Occurs, Avoids}
+use Rattle.walks.specs.Avoid.{Avoids}
 use Rattle.walks.specs.Order.{Lex, _≼⟨_⟩_, ≼-weight}
 use Rattle.walks.specs.Best.{Feasible}
+use Rattle.states.specs.Chosen.{Decided}
 use Rattle.book.specs.Refusal.{refusalBy}
-use Rattle.book.specs.Book.{RuleSet, Book, WellFormed, graph}
+use Rattle.book.specs.Book.{Book, WellFormed, graph}
 use Rattle.book.specs.BookLaws.{reading-is-book}
 use Rattle.book.specs.Reading.{accepted, reading, refusalOf, bookIn}
 use Rattle.rules.specs.declared.Bound.{Bound}
@@ -27,74 +27,14 @@ use Rattle.routes.specs.Plan.{PlannedWalk}
 use Rattle.planner.specs.declared.Outcome.{Outcome}
 use Rattle.planner.specs.Planning.{planTests, Planned, PlanningOf, Planning}
 use Rattle.planner.specs.RuleSets.{planned-same}
-use Rattle.listed.specs.declared.Arc.{Arc as Item}
-use Rattle.listed.specs.Listing.{listing}
-use Rattle.listed.specs.SameBook.{arcsOf, from-book}
-use Rattle.demands.specs.Marks.{Binds, binds-when, needs-nothing}
-use Rattle.trials.specs.Replanning.{chosen-planner, known-set}
+use Rattle.listed.specs.SameBook.{from-book}
 use Rattle.trial_rules.specs.Plans.{plan-best}
-use Rattle.states.specs.Chosen.{Decided}
+use Rattle.trials.specs.Replanning.{chosen-planner, known-set}
+use Rattle.demands.specs.Marks.{binds-when, needs-nothing}
 use Rattle.demands.specs.Conditions.{zero-one}
 use Rattle.demands.specs.Asked.{conditions}
-use Rattle.demands.specs.Answers.{WalkOrNone, binds, binds-valid, answers}
-
--- ---- the statement
--- The line-up w contains no forbidden run of any sheet that binds the batch.
-abbrev pub Clear : Book → ℕ → List ℕ → Type 0
-Clear b flags w = (set : RuleSet) → List·Memᴰ set (b .sets) → Binds set flags → (p : List ℕ) → List·Memᴰ p (set .paths) → Occurs p w → ⊥
-
--- A line-up from start to end that contains none.
-pub record Allowed (b : Book) (flags start end : ℕ) (w : List ℕ) : Type 0 where
-  pub walk : Walk (graph b) w
-  pub starts : getD w 0 0 ≡ start
-  pub ends : getD w (hops w) 0 ≡ end
-  pub clear : Clear b flags w
-
--- Where planning answers litres and changeovers, the line-up is the front of the area: a grade more than changeovers.
-abbrev pub lineUp : ℕ → List ℕ → List ℕ
-lineUp changeovers new = take (suc changeovers) new
-
-pub record Shortest (b : Book) (flags start end : ℕ) (old : List ℕ) (litres changeovers : ℕ) (new : List ℕ) : Type 0 where
-  -- 'it contains no forbidden run of any sheet that binds the batch'; and it is a line-up from start to end
-  pub allowed : Allowed b flags start end (lineUp changeovers new)
-  pub litres-are : litres ≡ weightOf (graph b) (lineUp changeovers new)
-  pub changeovers-are : changeovers ≡ hops (lineUp changeovers new)
-  -- 'every other such line-up loses at least as many litres to slop'
-  pub least : (v : List ℕ) → Allowed b flags start end v → litres ≤ weightOf (graph b) v
-  -- 'ties fall as 01 says': of those with the least litres, the fewest changeovers; of these, the one whose first differing grade is the lower
-  pub fewest : (v : List ℕ) → Allowed b flags start end v → weightOf (graph b) v ≡ litres → changeovers ≤ hops v
-  pub lowest : (v : List ℕ) → Allowed b flags start end v → weightOf (graph b) v ≡ litres → hops v ≡ changeovers → Lex (lineUp changeovers new) v
-  -- (all three as 01's one order)
-  pub ordered : (v : List ℕ) → Allowed b flags start end v → lineUp changeovers new ≼⟨ graph b ⟩ v
-  -- 01: 'A plan has at most 1,600 grades, a byte each in the area; bytes after it are untouched.'
-  pub short : length (lineUp changeovers new) ≤ longest
-  pub untouched : drop (suc changeovers) new ≡ drop (suc changeovers) old
-  pub same-length : length new ≡ length old
-
--- What planning answers and leaves, for a batch with these flags.
-pub record Plans (b : Book) (flags start end : ℕ) (old : List ℕ) (r : Outcome) (new : List ℕ) : Type 0 where
-  -- The answer is a line-up or none, never a refusal.
-  pub answer : WalkOrNone r
-  -- A line-up is the shortest of those that are allowed.
-  pub shortest : (litres changeovers : ℕ) → r ≡ Outcome.Walk litres changeovers → Shortest b flags start end old litres changeovers new
-  -- 'none is the answer exactly when no such line-up exists'
-  pub none-exactly : (r ≡ Outcome.Nothing) ↔ ((v : List ℕ) → Allowed b flags start end v → ⊥)
-  -- 01: 'If there is none, .. the line-up area is untouched.'
-  pub none-untouched : r ≡ Outcome.Nothing → new ≡ old
-
--- Binding for a batch, and planning under the count that it answered and the runs area as it left it.
-pub record BatchPlans (s : List ℕ) (b : Book) (flags : ℕ) (area : List ℕ) (known′ start end : ℕ) (old : List ℕ) : Type 0 where
-  -- There is an answer, and only one, with one set of bytes.
-  pub answered : (r : Outcome) × (new : List ℕ) × Planning s (areaAfter (binding s flags area) area) known′ start end old r new
-  pub one : (r r′ : Outcome) (new new′ : List ℕ) → Planning s (areaAfter (binding s flags area) area) known′ start end old r new
-      → Planning s (areaAfter (binding s flags area) area) known′ start end old r′ new′ → (r ≡ r′) × (new ≡ new′)
-  -- What it is.
-  pub plans : (r : Outcome) (new : List ℕ) → Planning s (areaAfter (binding s flags area) area) known′ start end old r new → Plans b flags start end old r new
-  -- So is a plan from the book's changeovers as a list.
-  pub plans-list : (n : ℕ) (xs : List Item) → n ≡ b .count → List·Permᴰ (b .arcs) (arcsOf xs) → (r : Outcome) (new : List ℕ)
-      → PlanningOf (listing n xs) (areaAfter (binding s flags area) area) known′ start end old r new → Plans b flags start end old r new
-  -- 01: 'A sheet that needs 0 binds every batch.'
-  pub needs-0 : (set : RuleSet) → set .flags ≡ 0 → Binds set flags
+use Rattle.demands.specs.Demands.{Clear, Allowed, Shortest, Plans, BatchPlans}
+use Rattle.demands.specs.AnswerLaws.{binds, binds-valid, answers}
 
 -- ---- the known paths are those of the sheets that bind
 module _ (b : Book) (flags : ℕ) where

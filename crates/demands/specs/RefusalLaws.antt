@@ -1,13 +1,13 @@
--- Demand 1: 'Everything else gets its numbered refusal, under that refusal's stated condition and no other, and a refusal writes to no lent
--- memory.' Of each operation: when it answers with a refusal, and that a refusal leaves every lent byte and the record.
+-- Demand 1, proved: when an operation answers with a refusal, and that a refusal leaves every lent byte and the record.
 use Prim.Native.Nat.{ℕ, zero, suc, _-_}
 use mathlib.Core.Path.{_≡_, refl, ap, _∙_}
 use mathlib.Core.List.{List}
-use mathlib.Core.Logic.{_↔_, Iff·trans, _⊎_, inl, inr}
+use mathlib.Core.Logic.{_↔_, Iff·trans, inl, inr}
 use mathlib.Core.Option.{Option, none, some, Option·none-ne-some}
 use lib.ListN.{length}
 use Rattle.walks.specs.Graph.{Graph}
 use Rattle.walks.specs.Walk.{Walk}
+use Rattle.states.specs.Chosen.{chosen}
 use Rattle.book.specs.declared.Answer.{Answer}
 use Rattle.book.specs.declared.Refusal.{Refusal}
 use Rattle.book.specs.Refusal.{Test}
@@ -18,70 +18,21 @@ use Rattle.rules.specs.Area.{spelled}
 use Rattle.rules.specs.Binding.{known}
 use Rattle.rules.specs.Operations.{outcome, bindTests, boundAs, binding, areaAfter}
 use Rattle.walk_check.specs.declared.Checked.{Checked}
-use Rattle.walk_check.specs.Checking.{namedAt, answerAt, checkFrom, verdict, occurrence, checkTests, checking}
+use Rattle.walk_check.specs.Checking.{namedAt, answerAt, checkFrom, verdict, occurrence, checkTests}
 use Rattle.planner.specs.declared.Outcome.{Outcome}
-use Rattle.planner.specs.Planning.{planTests, Planned, PlanningOf, Planning}
-use Rattle.listed.specs.declared.Arc.{Arc as Item}
+use Rattle.planner.specs.Planning.{planTests, Planned, PlanningOf}
 use Rattle.listed.specs.Listing.{listing}
 use Rattle.trial_record.specs.declared.Record.{Record}
-use Rattle.trial_rules.specs.Trials.{Report, State, beginTests, step, run}
+use Rattle.trial_rules.specs.Trials.{Report, State, step, run}
 use Rattle.judging.specs.Judging.{stateOf, reportTests}
 use Rattle.trials.specs.declared.Begun.{Begun}
 use Rattle.trials.specs.declared.Reported.{Reported}
-use Rattle.trials.specs.Operations.{answering, begunAs, firstState, beginning, reportedAs, reporting}
+use Rattle.trials.specs.Operations.{answering, begunAs, firstState, reportedAs, reporting}
 use Rattle.series.specs.Reports.{reportsOf}
-use Rattle.series.specs.Making.{replaying}
-use Rattle.states.specs.Chosen.{chosen}
 use Rattle.demands.specs.Conditions.{Condition, zero-one}
-use Rattle.demands.specs.Fields.{BadBook, BadList, bad-book, bad-list}
-use Rattle.demands.specs.Asked.{bindConditions, checkConditions, planConditions, beginConditions, reportConditions, Cause, Judges, conditions}
-
--- ---- the statement
--- What begin, and begin with a list of reports, are refused for.
-abbrev pub tests-of-begin : ℕ → ℕ → List ℕ → List ℕ → Book → List Test
-tests-of-begin start end paths walk b = beginTests (graph b) start end paths walk
-
--- An operation answers with the refusal x exactly where the one definition of what it is refused for gives x; and that is where the book is refused
--- under x, or x has the number of the first condition that does not hold.
-pub record Exactly (r : Reading) (tests : Book → List Test) (conditions : Book → List Condition) (x : Refusal) (answer : Type 0) : Type 0 where
-  pub defined : answer ↔ (refusalOf r tests ≡ some x)
-  pub cause : answer ↔ Cause r conditions x
-
-pub record Refusals (s : List ℕ) (x : Refusal) : Type 0 where
-  -- 'Everything else gets its numbered refusal, under that refusal's stated condition and no other.'
-  -- A book, and a list of changeovers, is refused for its first bad field or item.
-  pub read : (readAs (reading s) ≡ Answer.Refused x) ↔ (reading s ≡ refused x)
-  pub read-cause : (reading s ≡ refused x) ↔ BadBook s x
-  pub list-cause : (n : ℕ) (xs : List Item) → (listing n xs ≡ refused x) ↔ BadList n xs x
-  pub bind : (flags : ℕ) (area : List ℕ) → Exactly (reading s) (bindTests area) (bindConditions area) x (boundAs (binding s flags area) ≡ Bound.Refused x)
-  pub check : (area : List ℕ) (count : ℕ) (w : List ℕ)
-      → Exactly (reading s) (checkTests area count w) (checkConditions area count w) x (checking s area count w ≡ Checked.Refused x)
-  pub plan : (paths : List ℕ) (count start end : ℕ) (old : List ℕ) (r : Outcome) (new : List ℕ) → Planning s paths count start end old r new
-      → Exactly (reading s) (planTests paths count start end old) (planConditions paths count start end old) x (r ≡ Outcome.Refused x)
-  pub plan-list : (n : ℕ) (xs : List Item) (paths : List ℕ) (count start end : ℕ) (old : List ℕ) (r : Outcome) (new : List ℕ)
-      → PlanningOf (listing n xs) paths count start end old r new
-      → Exactly (listing n xs) (planTests paths count start end old) (planConditions paths count start end old) x (r ≡ Outcome.Refused x)
-  pub begin : (flags start end : ℕ) (paths walk : List ℕ)
-      → Exactly (reading s) (tests-of-begin start end paths walk) (beginConditions start end paths walk) x (beginning s flags start end paths walk .answer ≡ Begun.Refused x)
-  pub replay : (flags start end : ℕ) (reports paths walk : List ℕ)
-      → Exactly (reading s) (tests-of-begin start end paths walk) (beginConditions start end paths walk) x
-      (replaying s flags start end reports paths walk .answer ≡ Begun.Refused x)
-  -- A report is passed, or failed with a named run.
-  pub report : (q : Record) (paths walk : List ℕ) (ρ : Report)
-      → Exactly (reading s) (reportTests q paths walk ρ) (reportConditions q paths walk ρ) x
-      ((q′ : Record) × (reporting s q paths walk ρ .answer ≡ Reported.Refused x q′))
-  -- '.. and a refusal writes to no lent memory.' Reading and the check are lent none to write to. 01: it 'hands back as it came a record that the call took'.
-  pub bind-keeps : (flags : ℕ) (area : List ℕ) → boundAs (binding s flags area) ≡ Bound.Refused x → areaAfter (binding s flags area) area ≡ area
-  pub plan-keeps : (paths : List ℕ) (count start end : ℕ) (old : List ℕ) (r : Outcome) (new : List ℕ) → Planning s paths count start end old r new
-      → r ≡ Outcome.Refused x → new ≡ old
-  pub plan-list-keeps : (n : ℕ) (xs : List Item) (paths : List ℕ) (count start end : ℕ) (old : List ℕ) (r : Outcome) (new : List ℕ)
-      → PlanningOf (listing n xs) paths count start end old r new → r ≡ Outcome.Refused x → new ≡ old
-  pub begin-keeps : (flags start end : ℕ) (paths walk : List ℕ) → beginning s flags start end paths walk .answer ≡ Begun.Refused x
-      → beginning s flags start end paths walk ≡ answering (Begun.Refused x) paths walk
-  pub replay-keeps : (flags start end : ℕ) (reports paths walk : List ℕ) → replaying s flags start end reports paths walk .answer ≡ Begun.Refused x
-      → replaying s flags start end reports paths walk ≡ answering (Begun.Refused x) paths walk
-  pub report-keeps : (q : Record) (paths walk : List ℕ) (ρ : Report) → (q′ : Record) × (reporting s q paths walk ρ .answer ≡ Reported.Refused x q′)
-      → reporting s q paths walk ρ ≡ answering (Reported.Refused x q) paths walk
+use Rattle.demands.specs.Fields.{bad-book, bad-list}
+use Rattle.demands.specs.Asked.{Judges, conditions}
+use Rattle.demands.specs.Demands.{ClearOrOccurs, tests-of-begin, Exactly, Refusals}
 
 -- ---- the proofs
 -- An answer that tells whether the definition gives x, and what it keeps then.
@@ -96,10 +47,6 @@ exactly {x = x} j d = record { defined = d; cause = Iff·trans d (j .refuses x) 
 read-iff : (r : Reading) (x : Refusal) → (readAs r ≡ Answer.Refused x) ↔ (r ≡ refused x)
 read-iff (accepted b) x = (λ e. zero-one (cc), λ e. zero-one (cc))
 read-iff (refused y) x = (λ e. let same : y ≡ x = cc in ap refused same, λ e. let same : y ≡ x = cc in ap Answer.Refused same)
-
--- What the check answers for a walk: it is clear, or a path occurs in it.
-abbrev pub ClearOrOccurs : Checked → Type 0
-ClearOrOccurs c = (c ≡ Checked.Clear) ⊎ ((place : ℕ) × (size : ℕ) × (c ≡ Checked.Occurs place size))
 
 -- What the check finds in a walk is no refusal.
 pub check-finds : (F : List (List ℕ)) (w : List ℕ) (k e : ℕ) → ClearOrOccurs (checkFrom F w k e)
