@@ -1,7 +1,7 @@
 -- The refusals: 01's number and value for each, the tests that lead to them, and the order between the tests of an operation.
 use Prim.Native.Nat.{ℕ}
 use mathlib.Core.Bool.{Bool, true, false, cond, _&&_}
-use mathlib.Core.List.{List, [], _∷_, _++_}
+use mathlib.Core.List.{List, [], _∷_, _++_, map}
 use mathlib.Core.Option.{Option, none, some}
 use lib.Dec.{eqb}
 use Rattle.book.specs.declared.Number.{Number}
@@ -24,10 +24,13 @@ numberOf Ended = record { number = 11; placed = false; place = 0 }
 numberOf NotStanding = record { number = 12; placed = false; place = 0 }
 numberOf Full = record { number = 13; placed = false; place = 0 }
 
--- Every refusal, those of a book at a place.
-abbrev pub refusals : ℕ → List Refusal
-refusals at =
-    Truncated at ∷ Tag at ∷ Length at ∷ Value at ∷ Repeated at ∷ TooMany at ∷ Endpoint ∷ Area ∷ Invalid ∷ NotAWalk ∷ Ended ∷ NotStanding ∷ Full ∷ []
+-- The book's refusals, at a place; and the others in the order between the tests of an operation (01: 8, 7, 9 to 13), after the book's. Every
+-- refusal stands in one of the two lists, and its rank is said here alone.
+abbrev pub bookRefusals : ℕ → List Refusal
+bookRefusals at = Truncated at ∷ Tag at ∷ Length at ∷ Value at ∷ Repeated at ∷ TooMany at ∷ []
+
+abbrev pub refusalsInOrder : List Refusal
+refusalsInOrder = Area ∷ Endpoint ∷ Invalid ∷ NotAWalk ∷ Ended ∷ NotStanding ∷ Full ∷ []
 
 -- The one with a number, as `numberOf` has it: the definitions below and those of the operations name refusals by 01's numbers alone.
 abbrev pub numberedIn : ℕ → List Refusal → Refusal
@@ -35,7 +38,7 @@ numberedIn n [] = Full
 numberedIn n (r ∷ rs) = cond (eqb (numberOf r .number) n) r (numberedIn n rs)
 
 abbrev pub numbered : ℕ → ℕ → Refusal
-numbered n at = numberedIn n (refusals at)
+numbered n at = numberedIn n (bookRefusals at ++ refusalsInOrder)
 
 -- A test, and the refusal of what fails it.
 pub record Test : Type 0 where
@@ -59,9 +62,9 @@ abbrev pub allHold : List Test → Bool
 allHold [] = true
 allHold (t ∷ ts) = t .holds && allHold ts
 
--- The order between the tests of an operation; 1 to 6, the book's, come before them.
+-- That order, as 01's numbers.
 abbrev pub order : List ℕ
-order = 8 ∷ 7 ∷ 9 ∷ 10 ∷ 11 ∷ 12 ∷ 13 ∷ []
+order = map (λ r. numberOf r .number) refusalsInOrder
 
 -- The tests of an operation in that order, however it lists them; none is left out.
 abbrev pub withNumber : ℕ → List Test → List Test

@@ -1,29 +1,12 @@
--- Laws of the refusals' numbers, and of the first test that fails.
+-- Laws of the first test that fails.
 use mathlib.Core.Path.{_≡_, refl, sym}
 use mathlib.Core.Bool.{Bool, true, false, cond}
 use mathlib.Core.List.{List, [], _∷_, _++_}
 use mathlib.Core.Option.{none, some, Option·none-ne-some}
 use Rattle.lists.specs.Test.{and-true}
 use Rattle.book.specs.declared.Refusal.{Refusal}
-use Rattle.book.specs.declared.Refusal.the-variants.{Truncated, Tag, Length, Value, Repeated, TooMany, Endpoint, Area, Invalid, NotAWalk, Ended, NotStanding, Full}
-use Rattle.book.specs.Refusal.{numberOf, numbered, Test, firstFailure, allHold}
+use Rattle.book.specs.Refusal.{Test, firstFailure, allHold}
 use Rattle.book.specs.Book.{All}
-
--- A refusal is known by its number and its place.
-pub refusal-again : (r : Refusal) → numbered (numberOf r .number) (numberOf r .place) ≡ r
-refusal-again (Truncated at) = refl
-refusal-again (Tag at) = refl
-refusal-again (Length at) = refl
-refusal-again (Value at) = refl
-refusal-again (Repeated at) = refl
-refusal-again (TooMany at) = refl
-refusal-again Endpoint = refl
-refusal-again Area = refl
-refusal-again Invalid = refl
-refusal-again NotAWalk = refl
-refusal-again Ended = refl
-refusal-again NotStanding = refl
-refusal-again Full = refl
 
 abbrev pub Hold : List Test → Type 0
 Hold ts = All (λ t. t .holds ≡ true) ts
