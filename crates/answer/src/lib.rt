@@ -3,11 +3,12 @@ ghost use Prim.Native.Nat.{_≤_};
 ghost use lib.ListN.{length};
 ghost use Rattle.book.specs.Book.{Book};
 ghost use Rattle.book.specs.Reading.{accepted, reading};
-ghost use Rattle.book.specs.Tables.{IsGraph, IsSets};
+ghost use Rattle.book.specs.Tables.{IsLoaded};
 ghost use Rattle.answer.specs.Answer.{Printed, AnsweredOf};
 ghost use Rattle.text.specs.Text.{longestText};
 ghost use Rattle.text.specs.Writing.{WroteSome};
 use book::Answer;
+use book::Counts;
 use book::Refusal;
 use limits::AREA;
 use limits::LONGEST;
@@ -52,12 +53,11 @@ fn answer_book(bytes: &[u8], flags: u16, start: u8, end: u8, out: &mut [u8]) -> 
     match read {
         Answer::Refused(r) => refusal_text(r, out),
         Answer::Read(counts) => answer_loaded(
+            counts,
             &weights,
-            counts.vertices,
             &needed,
             &owners,
             &entries,
-            counts.paths,
             flags,
             start,
             end,
@@ -68,21 +68,21 @@ fn answer_book(bytes: &[u8], flags: u16, start: u8, end: u8, out: &mut [u8]) -> 
 
 // Binds and plans in a book that has been read, in areas of its own.
 fn answer_loaded(
+    counts: Counts,
     weights: &[u32; PAIRS],
-    vertices: usize,
     needed: &[u16; MOST_SETS],
     owners: &[u8; MOST_PATHS],
     entries: &[u8],
-    listed: usize,
     flags: u16,
     start: u8,
     end: u8,
     out: &mut [u8],
 ) -> usize
-    requires { ⌜ ((b : Book) × IsGraph b vertices (now weights) × IsSets b listed (now needed) (now owners) (now entries)) ⌝ }
+    requires { ⌜ ((b : Book) × IsLoaded b counts (now weights) (now needed) (now owners) (now entries)) ⌝ }
     requires { ⌜ longestText ≤ length (now out) ⌝ }
-    ensures { λ r. ⌜ ((b : Book) → IsGraph b vertices (now (weights .entry)) → IsSets b listed (now (needed .entry)) (now (owners .entry)) (now (entries .entry)) → WroteSome (AnsweredOf (accepted b) flags start end) (now (out .entry)) r (now (out .exit))) ⌝ }
+    ensures { λ r. ⌜ ((b : Book) → IsLoaded b counts (now (weights .entry)) (now (needed .entry)) (now (owners .entry)) (now (entries .entry)) → WroteSome (AnsweredOf (accepted b) flags start end) (now (out .entry)) r (now (out .exit))) ⌝ }
 {
+    let vertices = counts.vertices;
     if vertices <= start as usize {
         return refusal_text(Refusal::Endpoint, out);
     }
@@ -90,7 +90,7 @@ fn answer_loaded(
         return refusal_text(Refusal::Endpoint, out);
     }
     let mut paths = [0u8; AREA];
-    let count = rules::gather(needed, owners, entries, listed, flags, &mut paths);
+    let count = rules::gather(needed, owners, entries, counts.paths, flags, &mut paths);
     let mut walk = [0u8; LONGEST];
     let found = planner::find(weights, vertices, &paths, count, start, end, &mut walk);
     found_text(found, &walk, out)

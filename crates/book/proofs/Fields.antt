@@ -7,7 +7,7 @@ use mathlib.Core.Option.{Option, none, some}
 use native.Mathlib.Omega.{arith}
 use borrow.Author.Tests.{leb-true}
 use lib.ListN.{length}
-use Rattle.limits.specs.Limits.{areaSize, mostPaths}
+use Rattle.limits.specs.Limits.{areaSize, mostPaths, mostSets}
 use Rattle.book.specs.declared.Refusal.{Refusal}
 use Rattle.book.specs.declared.Answer.the-variants.{Read, Refused}
 use Rattle.book.specs.declared.Counts.{Counts}
@@ -15,10 +15,10 @@ use Rattle.book.specs.declared.Kind.{Kind}
 use Rattle.book.specs.declared.Kind.the-variants.{VertexCount, Arc, RuleSet, Path}
 use Rattle.book.specs.Refusal.{firstFailure}
 use Rattle.book.specs.RefusalLaws.{none→hold, first-of-append, first-kept}
-use Rattle.book.specs.Book.{Book, counts}
-use Rattle.book.specs.BookLaws.{paths-set}
-use Rattle.book.specs.Reading.{refused, verdict, kindAt, lengthAt, endAt, flagsAt, pathAt, follows, fits, framing, content, framed, extended, outcome, taken, kept, field}
-use Rattle.book.specs.Tables.{Tables, weightTable, flagTable, ownerTable, pathTable, padded, entries}
+use Rattle.book.specs.Book.{Book, WellFormed, counts}
+use Rattle.book.specs.BookLaws.{paths-set, field-well-formed}
+use Rattle.book.specs.Reading.{Reading, accepted, refused, verdict, kindAt, lengthAt, endAt, flagsAt, pathAt, follows, fits, framing, content, framed, extended, outcome, taken, kept, field}
+use Rattle.book.specs.Tables.{IsLoaded, weightTable, flagTable, ownerTable, pathTable, padded, entries}
 use Rattle.book.proofs.Added.{owners-set, flags-path}
 
 verdict-read : (o : Option Refusal) (c d : Counts) → verdict o (Read c) ≡ Read d → o ≡ none
@@ -56,51 +56,68 @@ module _ (s : List ℕ) (at : ℕ) (c : Counts) where
         (first-of-append (framing s (b .count) (length (b .sets)) at) (content (kindAt s at) s b at) (sym frame-first ∙ verdict-read _ c d e))
         ∙ ap (λ j. taken j s b at) (sym is)
 
+-- a book stays well-formed with a field more
+kept-well : (s : List ℕ) (b : Book) (at : ℕ) → WellFormed b → WellFormed (kept b (field s b at))
+kept-well s b at w = go (field s b at) refl
+  where
+    go : (r : Reading) → field s b at ≡ r → WellFormed (kept b r)
+    go (accepted b′) e = field-well-formed s b at b′ w e
+    go (refused r) e = w
+
 -- what a field that is taken does not touch
 kept-same : {X : Type 0} (g : Book → X) (b : Book) (o : Option Refusal) (ext : Book) → g ext ≡ g b → g b ≡ g (kept b (outcome o ext))
 kept-same g b none ext e = sym e
 kept-same g b (some r) ext e = refl
 
-untouched : {X : Type 0} (k : Kind) (s : List ℕ) (b : Book) (at : ℕ) (g : Book → X) → g (extended k s b at) ≡ g b → g b ≡ g (kept b (taken k s b at))
-untouched k s b at g e = kept-same g b (firstFailure (content k s b at)) (extended k s b at) e
+pub is-loaded : (b : Book) {w f o p : List ℕ} → WellFormed b
+    → w ≡ weightTable (b .arcs) → f ≡ flagTable (b .sets) → o ≡ ownerTable (b .sets) → p ≡ pathTable (b .sets) → IsLoaded b (counts b) w f o p
+is-loaded b well w f o p =
+    record {
+      graph = record { well = well; vertices-are = refl; weights-are = w };
+      sets = record { well = well; counted = refl; flags-are = f; owners-are = o; paths-are = p };
+    }
 
--- the tables after a field of each kind, given the one that it may change
-module _ (s : List ℕ) (b : Book) (at : ℕ) (w f o p : List ℕ) where
-  pub tables-count : Tables b w f o p → Tables (kept b (taken VertexCount s b at)) w f o p
-  tables-count held =
-      record {
-        weights-are = held .weights-are ∙ untouched VertexCount s b at (λ d. weightTable (d .arcs)) refl;
-        flags-are = held .flags-are ∙ untouched VertexCount s b at (λ d. flagTable (d .sets)) refl;
-        owners-are = held .owners-are ∙ untouched VertexCount s b at (λ d. ownerTable (d .sets)) refl;
-        paths-are = held .paths-are ∙ untouched VertexCount s b at (λ d. pathTable (d .sets)) refl;
-      }
+-- the tables after a field of kind k, given those that it may change
+module _ (s : List ℕ) (b : Book) (at : ℕ) {c : Counts} {w f o p : List ℕ} (held : IsLoaded b c w f o p) where
+  -- the book so far
+  abbrev more : Book
+  more = kept b (field s b at)
 
-  pub tables-arc : (w′ : List ℕ) → Tables b w f o p → w′ ≡ weightTable (kept b (taken Arc s b at) .arcs) → Tables (kept b (taken Arc s b at)) w′ f o p
-  tables-arc w′ held changed =
-      record {
-        weights-are = changed;
-        flags-are = held .flags-are ∙ untouched Arc s b at (λ d. flagTable (d .sets)) refl;
-        owners-are = held .owners-are ∙ untouched Arc s b at (λ d. ownerTable (d .sets)) refl;
-        paths-are = held .paths-are ∙ untouched Arc s b at (λ d. pathTable (d .sets)) refl;
-      }
+  same : (k : Kind) → taken k s b at ≡ field s b at → {X : Type 0} (g : Book → X) → g (extended k s b at) ≡ g b → g b ≡ g more
+  same k is g e = kept-same g b (firstFailure (content k s b at)) (extended k s b at) e ∙ ap (λ r. g (kept b r)) is
 
-  pub tables-set : (f′ : List ℕ) → Tables b w f o p → f′ ≡ flagTable (kept b (taken RuleSet s b at) .sets) → Tables (kept b (taken RuleSet s b at)) w f′ o p
-  tables-set f′ held changed =
-      record {
-        weights-are = held .weights-are ∙ untouched RuleSet s b at (λ d. weightTable (d .arcs)) refl;
-        flags-are = changed;
-        owners-are = held .owners-are ∙ untouched RuleSet s b at (λ d. ownerTable (d .sets)) (ap (padded mostPaths) (owners-set (flagsAt s at) 0 (b .sets)));
-        paths-are =
-            held .paths-are
-            ∙ untouched RuleSet s b at (λ d. pathTable (d .sets)) (ap (λ l. padded areaSize (entries l)) (paths-set (flagsAt s at) (b .sets)));
-      }
+  well : WellFormed more
+  well = kept-well s b at (held .graph .well)
 
-  pub tables-path : (o′ p′ : List ℕ) → Tables b w f o p
-      → o′ ≡ ownerTable (kept b (taken Path s b at) .sets) → p′ ≡ pathTable (kept b (taken Path s b at) .sets) → Tables (kept b (taken Path s b at)) w f o′ p′
-  tables-path o′ p′ held owners paths =
-      record {
-        weights-are = held .weights-are ∙ untouched Path s b at (λ d. weightTable (d .arcs)) refl;
-        flags-are = held .flags-are ∙ untouched Path s b at (λ d. flagTable (d .sets)) (ap (padded 16) (flags-path (pathAt s at) (b .sets)));
-        owners-are = owners;
-        paths-are = paths;
-      }
+  pub with-count : taken VertexCount s b at ≡ field s b at → IsLoaded more (counts more) w f o p
+  with-count is =
+      is-loaded more well
+      (held .graph .weights-are ∙ same VertexCount is (λ d. weightTable (d .arcs)) refl)
+      (held .sets .flags-are ∙ same VertexCount is (λ d. flagTable (d .sets)) refl)
+      (held .sets .owners-are ∙ same VertexCount is (λ d. ownerTable (d .sets)) refl)
+      (held .sets .paths-are ∙ same VertexCount is (λ d. pathTable (d .sets)) refl)
+
+  pub with-arc : taken Arc s b at ≡ field s b at → {w′ : List ℕ} → w′ ≡ weightTable (kept b (taken Arc s b at) .arcs) → IsLoaded more (counts more) w′ f o p
+  with-arc is weights =
+      is-loaded more well
+      (weights ∙ ap (λ r. weightTable (kept b r .arcs)) is)
+      (held .sets .flags-are ∙ same Arc is (λ d. flagTable (d .sets)) refl)
+      (held .sets .owners-are ∙ same Arc is (λ d. ownerTable (d .sets)) refl)
+      (held .sets .paths-are ∙ same Arc is (λ d. pathTable (d .sets)) refl)
+
+  pub with-set : taken RuleSet s b at ≡ field s b at → {f′ : List ℕ} → f′ ≡ flagTable (kept b (taken RuleSet s b at) .sets) → IsLoaded more (counts more) w f′ o p
+  with-set is flags =
+      is-loaded more well
+      (held .graph .weights-are ∙ same RuleSet is (λ d. weightTable (d .arcs)) refl)
+      (flags ∙ ap (λ r. flagTable (kept b r .sets)) is)
+      (held .sets .owners-are ∙ same RuleSet is (λ d. ownerTable (d .sets)) (ap (padded mostPaths) (owners-set (flagsAt s at) 0 (b .sets))))
+      (held .sets .paths-are ∙ same RuleSet is (λ d. pathTable (d .sets)) (ap (λ l. padded areaSize (entries l)) (paths-set (flagsAt s at) (b .sets))))
+
+  pub with-path : taken Path s b at ≡ field s b at → {o′ p′ : List ℕ}
+      → o′ ≡ ownerTable (kept b (taken Path s b at) .sets) → p′ ≡ pathTable (kept b (taken Path s b at) .sets) → IsLoaded more (counts more) w f o′ p′
+  with-path is owners paths =
+      is-loaded more well
+      (held .graph .weights-are ∙ same Path is (λ d. weightTable (d .arcs)) refl)
+      (held .sets .flags-are ∙ same Path is (λ d. flagTable (d .sets)) (ap (padded mostSets) (flags-path (pathAt s at) (b .sets))))
+      (owners ∙ ap (λ r. ownerTable (kept b r .sets)) is)
+      (paths ∙ ap (λ r. pathTable (kept b r .sets)) is)

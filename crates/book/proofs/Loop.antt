@@ -11,10 +11,11 @@ use Rattle.book.specs.declared.Answer.the-variants.{Read, Refused}
 use Rattle.book.specs.declared.Counts.{Counts}
 use Rattle.book.specs.declared.Kind.{Kind}
 use Rattle.book.specs.declared.Kind.the-variants.{VertexCount, Path, Unknown}
-use Rattle.book.specs.Book.{Book, WellFormed, allPaths, blank, counts}
-use Rattle.book.specs.BookLaws.{answer-read, answer-refused, blank-well-formed, field-passed, field-extends, field-well-formed}
+use Rattle.book.specs.Book.{Book, allPaths, blank, counts}
+use Rattle.book.specs.BookLaws.{answer-read, answer-refused, blank-well-formed, field-passed, field-extends}
 use Rattle.book.specs.Reading.{Reading, accepted, refused, readAs, kindAt, endAt, arcAt, andThen, extended, kept, field, fields, reading}
-use Rattle.book.specs.Tables.{Blank, Tables, entered, ownersFrom, entries}
+use Rattle.book.specs.Tables.{Blank, IsLoaded, entered, ownersFrom, entries}
+use Rattle.book.proofs.Fields.{is-loaded}
 
 pub not-both : (r : Reading) (b : Book) (q : Refusal) → r ≡ accepted b → r ≡ refused q → ⊥
 not-both r b q p e = let z : _≡_ {A = ℕ} 0 1 = cc in omega arith
@@ -46,8 +47,7 @@ pub record Reached (s : List ℕ) (at : ℕ) (c : Counts) (w f o p : List ℕ) :
   pub book : Book
   pub turns : ℕ
   pub so-far : c ≡ counts book
-  pub well : WellFormed book
-  pub tables : Tables book w f o p
+  pub tables : IsLoaded book c w f o p
   pub rest : fields turns s book at ≡ reading s
   pub enough : length s ≤ at + turns
   pub few-arcs : length (book .arcs) ≤ at
@@ -60,8 +60,7 @@ started (x ∷ s) w f o p some-byte clean =
       book = blank;
       turns = length (x ∷ s);
       so-far = refl;
-      well = blank-well-formed;
-      tables = record { weights-are = clean .no-arcs; flags-are = clean .no-flags; owners-are = clean .no-owners; paths-are = clean .no-paths };
+      tables = is-loaded blank blank-well-formed (clean .no-arcs) (clean .no-flags) (clean .no-owners) (clean .no-paths);
       rest = refl;
       enough = omega arith;
       few-arcs = omega arith;
@@ -89,7 +88,8 @@ module _ (s : List ℕ) (at : ℕ) (c : Counts) (w f o p : List ℕ) (r : Reache
       pub within : endAt s at ≤ length s
       within = let (b, is, _) = accepted-here in field-passed s (r .book) at b is .whole
 
-      pub onward : (end : ℕ) → end ≡ endAt s at → (w′ f′ o′ p′ : List ℕ) → Tables (kept (r .book) (field s (r .book) at)) w′ f′ o′ p′
+      pub onward : (end : ℕ) → end ≡ endAt s at → (w′ f′ o′ p′ : List ℕ)
+          → IsLoaded (kept (r .book) (field s (r .book) at)) (counts (kept (r .book) (field s (r .book) at))) w′ f′ o′ p′
           → Reached s end next w′ f′ o′ p′
       onward end is-end w′ f′ o′ p′ after =
           let (b, is, are) = accepted-here in
@@ -99,8 +99,8 @@ module _ (s : List ℕ) (at : ℕ) (c : Counts) (w f o p : List ℕ) (r : Reache
             book = b;
             turns = t;
             so-far = are;
-            well = field-well-formed s (r .book) at b (r .well) is;
-            tables = subst (λ x. Tables (kept (r .book) x) w′ f′ o′ p′) is after;
+            tables =
+                subst (λ d. IsLoaded b d w′ f′ o′ p′) (sym are) (subst (λ x. IsLoaded (kept (r .book) x) (counts (kept (r .book) x)) w′ f′ o′ p′) is after);
             rest = sym (turn ∙ ap (λ x. andThen x (λ b′. fields t s b′ (endAt s at))) is) ∙ r .rest;
             enough = omega (arith, used, r .enough);
             few-arcs = omega (arith, ap (λ (x : Book). length (x .arcs)) (field-extends s (r .book) at b is), one-arc-more (kindAt s at) s (r .book) at, r .few-arcs);

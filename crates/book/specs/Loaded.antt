@@ -1,45 +1,30 @@
 -- A book that has been loaded: what the tables and the counts stand for.
 use Prim.Native.Nat.{ℕ, zero, suc, _+_, _≤_, _<_}
 use mathlib.Core.List.{List, [], _∷_, _++_}
-use mathlib.Core.Path.{_≡_, refl, sym, ap, _∙_}
+use mathlib.Core.Path.{_≡_, refl, sym, ap, subst, _∙_}
 use native.Mathlib.Omega.{arith}
 use lib.ListN.{length, getD, replicate}
 use Rattle.limits.specs.Limits.{mostVertices, mostSets, mostPaths, areaSize}
 use Rattle.book.specs.declared.Answer.{Answer}
 use Rattle.book.specs.declared.Answer.the-variants.{Read}
 use Rattle.book.specs.declared.Counts.{Counts}
-use Rattle.book.specs.Book.{Book, RuleSet, All, WellFormed, allPaths}
-use Rattle.book.specs.BookLaws.{answer-read, reading-is-book, all-map}
+use Rattle.book.specs.Book.{Book, RuleSet, All, allPaths, counts}
+use Rattle.book.specs.BookLaws.{answer-read, all-map}
 use Rattle.book.specs.Reading.{accepted, reading, readAs}
-use Rattle.book.specs.Tables.{Tables, IsGraph, IsSets, entries, ownersFrom, ownerTable, pathTable}
+use Rattle.book.specs.Tables.{IsGraph, IsSets, IsLoaded, entries, ownersFrom, ownerTable}
 use Rattle.book.specs.EntryLaws.{Short, length-padded, length-entries}
 
 -- the book that was loaded
 pub record Loaded (s : List ℕ) (c : Counts) (weights flags owners paths : List ℕ) : Type 0 where
   pub book : Book
   pub is : reading s ≡ accepted book
-  pub graph : IsGraph book (c .vertices) weights
-  pub sets : IsSets book (c .paths) flags owners paths
+  pub tables : IsLoaded book c weights flags owners paths
 
-pub loaded : (s : List ℕ) (r : Answer) (c : Counts) (w f o p : List ℕ) → r ≡ readAs (reading s) → ((b : Book) → reading s ≡ accepted b → Tables b w f o p) → r ≡ Read c
+pub loaded : (s : List ℕ) (r : Answer) (c : Counts) (w f o p : List ℕ) → r ≡ readAs (reading s) → ((b : Book) → reading s ≡ accepted b → IsLoaded b (counts b) w f o p) → r ≡ Read c
     → Loaded s c w f o p
 loaded s r c w f o p answered tables read =
     let (b, is, counted) = answer-read (reading s) c (sym answered ∙ read) in
-    let well = reading-is-book s b is .well-formed in
-    let t = tables b is in
-    record {
-      book = b;
-      is = is;
-      graph = record { well = well; vertices-are = ap (λ (d : Counts). d .vertices) counted; weights-are = t .weights-are };
-      sets =
-          record {
-            well = well;
-            counted = ap (λ (d : Counts). d .paths) counted;
-            flags-are = t .flags-are;
-            owners-are = t .owners-are;
-            paths-are = t .paths-are;
-          };
-    }
+    record { book = b; is = is; tables = subst (λ d. IsLoaded b d w f o p) (sym counted) (tables b is) }
 
 pub graph-few : {b : Book} {n : ℕ} {w : List ℕ} → IsGraph b n w → n ≤ mostVertices
 graph-few g = omega (arith, g .vertices-are, g .well .few-vertices)
@@ -71,18 +56,9 @@ owners-below ss few i = rw (zeros-after (ownersFrom 0 ss)) (go ss few)
     go [] few = omega arith
     go (s ∷ ss) few = omega (arith, owner-below 0 (s ∷ ss) i (omega arith))
 
--- the table of paths has its size
-paths-short : {b : Book} → WellFormed b → All Short (allPaths (b .sets))
-paths-short {b} w = all-map (λ q h. h .eight) (allPaths (b .sets)) (w .paths-proper)
-
-pub entries-length : {b : Book} {p : List ℕ} → WellFormed b → p ≡ pathTable (b .sets) → length p ≡ areaSize
-entries-length {b} w e =
-    ap length e
-    ∙ length-padded areaSize (entries (allPaths (b .sets))) (omega (arith, length-entries (allPaths (b .sets)) (paths-short w), w .few-paths))
-
 module _ {b : Book} {n : ℕ} {f o p : List ℕ} (s : IsSets b n f o p) where
   pub sets-short : All Short (allPaths (b .sets))
-  sets-short = paths-short (s .well)
+  sets-short = all-map (λ q h. h .eight) (allPaths (b .sets)) (s .well .paths-proper)
 
   pub sets-few : n ≤ mostPaths
   sets-few = omega (arith, s .counted, s .well .few-paths)
@@ -91,4 +67,6 @@ module _ {b : Book} {n : ℕ} {f o p : List ℕ} (s : IsSets b n f o p) where
   sets-owners i = rw (s .owners-are) (owners-below (b .sets) (s .well .few-sets) i)
 
   pub sets-entries : length p ≡ areaSize
-  sets-entries = entries-length (s .well) (s .paths-are)
+  sets-entries =
+      ap length (s .paths-are)
+      ∙ length-padded areaSize (entries (allPaths (b .sets))) (omega (arith, length-entries (allPaths (b .sets)) sets-short, s .well .few-paths))

@@ -5,6 +5,7 @@ use mathlib.Core.List.{List, [], _∷_, _++_, map}
 use lib.ListN.{length, set, replicate}
 use Rattle.limits.specs.Limits.{mostVertices, pairs, mostSets, mostPaths, areaSize, noArc, longestPath}
 use Rattle.walks.specs.Graph.{Arc}
+use Rattle.book.specs.declared.Counts.{Counts}
 use Rattle.book.specs.declared.Verdict.{Verdict}
 use Rattle.book.specs.Book.{RuleSet, Book, WellFormed, allPaths}
 use Rattle.book.specs.Reading.{verdictOf, withArc, kept}
@@ -47,26 +48,24 @@ ownerTable ss = padded mostPaths (ownersFrom 0 ss)
 abbrev pub pathTable : List RuleSet → List ℕ
 pathTable ss = padded areaSize (entries (allPaths ss))
 
--- the tables that stand for a book
-pub record Tables (b : Book) (weights flags owners paths : List ℕ) : Type 0 where
-  pub weights-are : weights ≡ weightTable (b .arcs)
-  pub flags-are : flags ≡ flagTable (b .sets)
-  pub owners-are : owners ≡ ownerTable (b .sets)
-  pub paths-are : paths ≡ pathTable (b .sets)
-
 -- The count and the table of weights are those of the well-formed book b ...
 pub record IsGraph (b : Book) (vertices : ℕ) (weights : List ℕ) : Type 0 where
   pub well : WellFormed b
   pub vertices-are : vertices ≡ b .count
   pub weights-are : weights ≡ weightTable (b .arcs)
 
--- ... and the number of paths and the tables of its rule sets.
+-- ... so are the number of paths and the tables of the rule sets ...
 pub record IsSets (b : Book) (paths : ℕ) (flags owners entries : List ℕ) : Type 0 where
   pub well : WellFormed b
   pub counted : paths ≡ length (allPaths (b .sets))
   pub flags-are : flags ≡ flagTable (b .sets)
   pub owners-are : owners ≡ ownerTable (b .sets)
   pub paths-are : entries ≡ pathTable (b .sets)
+
+-- ... and so is all that loading b gives: these counts and tables are this well-formed book.
+pub record IsLoaded (b : Book) (c : Counts) (weights flags owners entries : List ℕ) : Type 0 where
+  pub graph : IsGraph b (c .vertices) weights
+  pub sets : IsSets b (c .paths) flags owners entries
 
 -- What entering an arc into the book b's table of weights answers and leaves: a refusal leaves the table as it was.
 abbrev pub Enters : Book → ℕ → Arc → Verdict → List ℕ → Type 0

@@ -3,12 +3,12 @@ ghost use mathlib.Core.Path.{_≡_};
 ghost use Prim.Native.Nat.{_+_, _≤_, _<_};
 ghost use lib.ListN.{length};
 ghost use lib.Seq.{slice};
-ghost use Rattle.limits.specs.Limits.{mostVertices, areaSize};
+ghost use Rattle.limits.specs.Limits.{mostVertices, areaSize, longestPath};
 ghost use Rattle.book.specs.Book.{Book, WellFormed, names, properArc, isPath};
 ghost use Rattle.book.specs.Book.{counts as Book·counts, simple as Book·simple};
 ghost use Rattle.book.specs.Reading.{readAs, u16At, u32At, endAt, lengthAt, kindOf, framed, taken, kept};
 ghost use Rattle.book.specs.Reading.{field as Reading·field, fits as Reading·fits, follows as Reading·follows};
-ghost use Rattle.book.specs.Tables.{Tables, IsGraph, Enters, weightTable, flagTable, ownerTable, pathTable};
+ghost use Rattle.book.specs.Tables.{IsGraph, IsLoaded, Enters, weightTable, flagTable, ownerTable, pathTable};
 ghost use Rattle.book.specs.declared.Kind.the-variants.{VertexCount, Arc, RuleSet, Path};
 use crate::Answer;
 use crate::Counts;
@@ -170,7 +170,7 @@ fn arc(bytes: &[u8], at: usize, counts: Counts, weights: &mut [u32; PAIRS]) -> A
     requires { ⌜ at + 9 ≤ length (now bytes) ⌝ }
     requires { ⌜ counts .vertices ≤ mostVertices ⌝ }
     requires { ⌜ counts .arcs ≤ at ⌝ }
-    ensures { λ r. ⌜ ((b : Book) → counts ≡ Book·counts b → WellFormed b → now (weights .entry) ≡ weightTable (b .arcs) → (r ≡ readAs (taken Arc (now (bytes .entry)) b at)) × (now (weights .exit) ≡ weightTable (kept b (taken Arc (now (bytes .entry)) b at) .arcs))) ⌝ }
+    ensures { λ r. ⌜ ((b : Book) → counts ≡ Book·counts b → IsGraph b (counts .vertices) (now (weights .entry)) → (r ≡ readAs (taken Arc (now (bytes .entry)) b at)) × (now (weights .exit) ≡ weightTable (kept b (taken Arc (now (bytes .entry)) b at) .arcs))) ⌝ }
 {
     let tail = wide(bytes[at + 3]);
     let head = wide(bytes[at + 4]);
@@ -260,7 +260,7 @@ fn path(
     entries: &mut [u8; AREA],
 ) -> Answer
     requires { ⌜ endAt (now bytes) at ≤ length (now bytes) ⌝ }
-    requires { ⌜ lengthAt (now bytes) at ≤ 8 ⌝ }
+    requires { ⌜ lengthAt (now bytes) at ≤ longestPath ⌝ }
     requires { ⌜ 1 ≤ counts .sets ⌝ }
     requires { ⌜ length (now entries) ≡ areaSize ⌝ }
     ensures { λ r. ⌜ ((b : Book) → counts ≡ Book·counts b → WellFormed b → now (owners .entry) ≡ ownerTable (b .sets) → now (entries .entry) ≡ pathTable (b .sets) → (r ≡ readAs (taken Path (now (bytes .entry)) b at)) × (now (owners .exit) ≡ ownerTable (kept b (taken Path (now (bytes .entry)) b at) .sets)) × (now (entries .exit) ≡ pathTable (kept b (taken Path (now (bytes .entry)) b at) .sets))) ⌝ }
@@ -299,7 +299,7 @@ pub fn field(
     requires { ⌜ counts .vertices ≤ mostVertices ⌝ }
     requires { ⌜ counts .arcs ≤ at ⌝ }
     requires { ⌜ length (now entries) ≡ areaSize ⌝ }
-    ensures { λ r. ⌜ ((b : Book) → counts ≡ Book·counts b → WellFormed b → Tables b (now (weights .entry)) (now (flags .entry)) (now (owners .entry)) (now (entries .entry)) → (r ≡ readAs (Reading·field (now (bytes .entry)) b at)) × Tables (kept b (Reading·field (now (bytes .entry)) b at)) (now (weights .exit)) (now (flags .exit)) (now (owners .exit)) (now (entries .exit))) ⌝ }
+    ensures { λ r. ⌜ ((b : Book) → counts ≡ Book·counts b → IsLoaded b counts (now (weights .entry)) (now (flags .entry)) (now (owners .entry)) (now (entries .entry)) → (r ≡ readAs (Reading·field (now (bytes .entry)) b at)) × IsLoaded (kept b (Reading·field (now (bytes .entry)) b at)) (Book·counts (kept b (Reading·field (now (bytes .entry)) b at))) (now (weights .exit)) (now (flags .exit)) (now (owners .exit)) (now (entries .exit))) ⌝ }
 {
     let framed = frame(bytes, at, counts);
     let Answer::Read(_) = framed else {

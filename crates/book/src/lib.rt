@@ -3,8 +3,9 @@ ghost use mathlib.Core.Path.{_≡_};
 ghost use mathlib.Core.Bool.{true, false};
 ghost use Rattle.book.specs.Refusal.{numberOf};
 ghost use Rattle.book.specs.Book.{Book};
+ghost use Rattle.book.specs.Book.{counts as Book·counts};
 ghost use Rattle.book.specs.Reading.{reading, readAs, accepted};
-ghost use Rattle.book.specs.Tables.{Blank, Tables};
+ghost use Rattle.book.specs.Tables.{Blank, IsLoaded};
 
 mod field;
 
@@ -131,7 +132,7 @@ pub fn load(
 ) -> Answer
     requires { ⌜ Blank (now weights) (now flags) (now owners) (now entries) ⌝ }
     ensures { λ r. ⌜ r ≡ readAs (reading (now (bytes .entry))) ⌝ }
-    ensures { λ r. ⌜ ((b : Book) → reading (now (bytes .entry)) ≡ accepted b → Tables b (now (weights .exit)) (now (flags .exit)) (now (owners .exit)) (now (entries .exit))) ⌝ }
+    ensures { λ r. ⌜ ((b : Book) → reading (now (bytes .entry)) ≡ accepted b → IsLoaded b (Book·counts b) (now (weights .exit)) (now (flags .exit)) (now (owners .exit)) (now (entries .exit))) ⌝ }
 {
     if bytes.len() == 0 {
         return Answer::Refused(Refusal::Truncated(0));

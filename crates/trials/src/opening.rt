@@ -2,10 +2,11 @@
 ghost use mathlib.Core.Path.{_≡_};
 ghost use Rattle.book.specs.Book.{Book};
 ghost use Rattle.book.specs.Reading.{accepted};
-ghost use Rattle.book.specs.Tables.{IsGraph, IsSets};
+ghost use Rattle.book.specs.Tables.{IsLoaded};
 ghost use Rattle.trials.specs.Operations.{answering, beginningOf, beginning};
 use crate::Begun;
 use book::Answer;
+use book::Counts;
 use book::Refusal;
 use limits::AREA;
 use limits::LONGEST;
@@ -35,12 +36,11 @@ pub fn begin(
     match read {
         Answer::Refused(r) => Begun::Refused(r),
         Answer::Read(counts) => begin_in(
+            counts,
             &weights,
-            counts.vertices,
             &needed,
             &owners,
             &entries,
-            counts.paths,
             flags,
             start,
             end,
@@ -52,21 +52,21 @@ pub fn begin(
 
 // The same in a book that has been read. All is tested before anything is written.
 fn begin_in(
+    counts: Counts,
     weights: &[u32; PAIRS],
-    vertices: usize,
     needed: &[u16; MOST_SETS],
     owners: &[u8; MOST_PATHS],
     entries: &[u8],
-    listed: usize,
     flags: u16,
     start: u8,
     end: u8,
     paths: &mut [u8],
     walk: &mut [u8],
 ) -> Begun
-    requires { ⌜ ((b : Book) × IsGraph b vertices (now weights) × IsSets b listed (now needed) (now owners) (now entries)) ⌝ }
-    ensures { λ r. ⌜ ((b : Book) → IsGraph b vertices (now (weights .entry)) → IsSets b listed (now (needed .entry)) (now (owners .entry)) (now (entries .entry)) → answering r (now (paths .exit)) (now (walk .exit)) ≡ beginningOf (accepted b) flags start end (now (paths .entry)) (now (walk .entry))) ⌝ }
+    requires { ⌜ ((b : Book) × IsLoaded b counts (now weights) (now needed) (now owners) (now entries)) ⌝ }
+    ensures { λ r. ⌜ ((b : Book) → IsLoaded b counts (now (weights .entry)) (now (needed .entry)) (now (owners .entry)) (now (entries .entry)) → answering r (now (paths .exit)) (now (walk .exit)) ≡ beginningOf (accepted b) flags start end (now (paths .entry)) (now (walk .entry))) ⌝ }
 {
+    let vertices = counts.vertices;
     if paths.len() < AREA {
         return Begun::Refused(Refusal::Area);
     }
@@ -80,7 +80,7 @@ fn begin_in(
         return Begun::Refused(Refusal::Endpoint);
     }
     let mut known = [0u8; AREA];
-    let count = rules::gather(needed, owners, entries, listed, flags, &mut known);
+    let count = rules::gather(needed, owners, entries, counts.paths, flags, &mut known);
     let found = planner::find(weights, vertices, &known, count, start, end, walk);
     lists::copy(&known, 0, paths, 0, AREA);
     Begun::Record(Record::new(start, end, count).replanned(found))

@@ -34,13 +34,13 @@ book c =
     (load .load .ensures .0) (load .load .ensures .1) (c .read2 .given .1)
 
 slice-aggregate-answer-loaded : tie.Need-slice-aggregate-answer-loaded
-slice-aggregate-answer-loaded c = sym (sets-entries (book (c .before .before .before .before .before) .sets))
+slice-aggregate-answer-loaded c = sym (sets-entries (book (c .before .before .before .before .before) .tables .sets))
 
 answer-loaded-requires : tie.Need-answer-loaded-requires
 answer-loaded-requires c κs =
     let read = c .before .before .before .before .before .before in
     let b = book read in
-    ((b .book, b .graph, b .sets), read .before .before .before .before .before .before .before .before .before .pre)
+    ((b .book, b .tables), read .before .before .before .before .before .before .before .before .before .pre)
 
 same-length : tie.Need-same-length
 same-length c = search needs
@@ -67,8 +67,8 @@ returns-2 c =
     let read = call .before .before .before .before .before .before .before in
     let a = read .before .before .before .before .before .before .before .before .before .args in
     let b = book read in
-    subst (λ x. WroteSome (AnsweredOf x (a .flags) (a .start) (a .end)) (now (a .out)) (call .answer-loaded .result) (call .answer-loaded .last .1 .1 .1 .1 .1 .1 .1 .1 .1 .0))
-    (sym (b .is)) (call .answer-loaded .ensures (b .book) (b .graph) (b .sets))
+    subst (λ x. WroteSome (AnsweredOf x (a .flags) (a .start) (a .end)) (now (a .out)) (call .answer-loaded .result) (call .answer-loaded .last .1 .1 .1 .1 .1 .1 .1 .1 .0))
+    (sym (b .is)) (call .answer-loaded .ensures (b .book) (b .tables))
 
 pub answer-book-spec : {M : Type 1} → statement M
 answer-book-spec =

@@ -11,7 +11,7 @@ use Rattle.limits.specs.Limits.{longest}
 use Rattle.book.specs.Book.{Book, graph}
 use Rattle.book.specs.Refusal.{numbered}
 use Rattle.book.specs.RefusalLaws.{here, later}
-use Rattle.book.specs.Tables.{IsGraph, IsSets}
+use Rattle.book.specs.Tables.{IsSets, IsLoaded}
 use Rattle.rules.specs.Area.{written, valid}
 use Rattle.rules.specs.Binding.{known}
 use Rattle.rules.specs.Laws.{gathered-valid, gathered-spells}
@@ -35,13 +35,13 @@ same-length : tie.Need-same-length
 same-length c = search needs
 
 returns : tie.Need-returns
-returns c b g s =
+returns c b h =
     let call = c .before .before in
     let then1 = call .before .before in
     let a = then1 .before .before .before .args in
     record {
       text = refusalText (numbered 7 0);
-      is = answer-fails b (a .flags) (a .start) (a .end) (here (le-ltb (a .start) (b .count) (omega (arith, g .vertices-are, then1 .if1 .taken))));
+      is = answer-fails b (a .flags) (a .start) (a .end) (here (le-ltb (a .start) (b .count) (omega (arith, h .graph .vertices-are, then1 .if1 .taken))));
       wrote = call .refusal-text .ensures;
     }
 
@@ -52,7 +52,7 @@ same-length-2 : tie.Need-same-length-2
 same-length-2 c = search needs
 
 returns-2 : tie.Need-returns-2
-returns-2 c b g s =
+returns-2 c b h =
     let call = c .before .before in
     let then2 = call .before .before in
     let a = then2 .before .before .before .before .args in
@@ -60,7 +60,7 @@ returns-2 c b g s =
       text = refusalText (numbered 7 0);
       is =
           answer-fails b (a .flags) (a .start) (a .end)
-          (later (lt-ltb (a .start) (b .count) (omega (arith, g .vertices-are, then2 .before .if1 .left))) (here (le-ltb (a .end) (b .count) (omega (arith, g .vertices-are, then2 .if2 .taken)))));
+          (later (lt-ltb (a .start) (b .count) (omega (arith, h .graph .vertices-are, then2 .before .if1 .left))) (here (le-ltb (a .end) (b .count) (omega (arith, h .graph .vertices-are, then2 .if2 .taken)))));
       wrote = call .refusal-text2 .ensures;
     }
 
@@ -73,7 +73,7 @@ gather-requires c κs = search needs
 -- the paths that are known
 gathered : (c : tie.After-gather)
     → let a = c .before .before .before .before .before .before .args in
-    (b : Book) → IsSets b (a .listed) (now (a .needed)) (now (a .owners)) (now (a .entries))
+    (b : Book) → IsSets b (a .counts .paths) (now (a .needed)) (now (a .owners)) (now (a .entries))
     → (c .gather .result ≡ length (known (a .flags) (b .sets))) × (c .gather .last .1 .1 .1 .1 .1 .0 ≡ written (known (a .flags) (b .sets)))
 gathered c = c .gather .ensures
 
@@ -88,11 +88,11 @@ find-requires c κs =
     let call = c .before .before .before in
     let else2 = call .before .before in
     let start = else2 .before .before .before .before in
-    let (b, g, s) = start .pre .0 in
-    let (counted, filled) = gathered call b s in (
-      (b, g),
+    let (b, h) = start .pre .0 in
+    let (counted, filled) = gathered call b (h .sets) in (
+      (b, h .graph),
       (
-        ap (λ n. valid n (call .gather .last .1 .1 .1 .1 .1 .0) (call .gather .result)) (g .vertices-are) ∙ gathered-valid (start .args .flags) b (g .well) counted filled,
+        ap (λ n. valid n (call .gather .last .1 .1 .1 .1 .1 .0) (call .gather .result)) (h .graph .vertices-are) ∙ gathered-valid (start .args .flags) b (h .graph .well) counted filled,
         (else2 .before .if1 .left, omega (arith, fresh)),
       ),
     )
@@ -100,14 +100,14 @@ find-requires c κs =
 -- what is found under them
 found : (c : tie.After-find)
     → let a = c .before .before .before .before .before .before .before .before .before .before .args in
-    (b : Book) → IsGraph b (a .vertices) (now (a .weights)) → IsSets b (a .listed) (now (a .needed)) (now (a .owners)) (now (a .entries))
+    (b : Book) → IsLoaded b (a .counts) (now (a .weights)) (now (a .needed)) (now (a .owners)) (now (a .entries))
     → Searched (graph b) (known (a .flags) (b .sets)) (a .start) (a .end) fresh-walk (c .find .result) (c .find .last .1 .1 .1 .1 .1 .1 .0)
-found c b g s =
+found c b h =
     let call = c .before .before .before .before in
     let a = call .before .before .before .before .before .before .args in
-    let (counted, filled) = gathered call b s in
+    let (counted, filled) = gathered call b (h .sets) in
     subst (λ G. Searched (graph b) G (a .start) (a .end) fresh-walk (c .find .result) (c .find .last .1 .1 .1 .1 .1 .1 .0))
-    (gathered-spells (a .flags) b (g .well) counted filled) (c .find .ensures b g)
+    (gathered-spells (a .flags) b (h .graph .well) counted filled) (c .find .ensures b (h .graph))
 
 slice-aggregate-found-text : tie.Need-slice-aggregate-found-text
 slice-aggregate-found-text c = search needs
@@ -116,8 +116,8 @@ found-text-requires : tie.Need-found-text-requires
 found-text-requires c κs =
     let call = c .before .before .before in
     let start = call .before .before .before .before .before .before .before .before .before .before in
-    let (b, g, s) = start .pre .0 in (
-      found-standing (graph b) _ (start .args .start) (start .args .end) fresh-walk _ (call .find .result) (found call b g s),
+    let (b, h) = start .pre .0 in (
+      found-standing (graph b) _ (start .args .start) (start .args .end) fresh-walk _ (call .find .result) (found call b h),
       (omega (arith, call .find .kept .1 .1 .1 .1 .1 .1 .0, fresh), start .pre .1),
     )
 
@@ -125,7 +125,7 @@ same-length-3 : tie.Need-same-length-3
 same-length-3 c = search needs
 
 returns-3 : tie.Need-returns-3
-returns-3 c b g s =
+returns-3 c b h =
     let call = c .before .before in
     let find = call .before .before .before .before in
     let else2 = find .before .before .before .before .before .before in
@@ -135,8 +135,8 @@ returns-3 c b g s =
       text = text;
       is =
           answer-found b (a .flags) (a .start) (a .end)
-          (lt-ltb (a .start) (b .count) (omega (arith, g .vertices-are, else2 .before .if1 .left)), (lt-ltb (a .end) (b .count) (omega (arith, g .vertices-are, else2 .if2 .left)), tt)) text
-          (found-text (graph b) _ (a .start) (a .end) fresh-walk _ (find .find .result) (found find b g s));
+          (lt-ltb (a .start) (b .count) (omega (arith, h .graph .vertices-are, else2 .before .if1 .left)), (lt-ltb (a .end) (b .count) (omega (arith, h .graph .vertices-are, else2 .if2 .left)), tt)) text
+          (found-text (graph b) _ (a .start) (a .end) fresh-walk _ (find .find .result) (found find b h));
       wrote = call .found-text .ensures;
     }
 

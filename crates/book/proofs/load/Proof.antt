@@ -7,9 +7,10 @@ use native.Mathlib.Omega.{arith}
 use lib.ListN.{length}
 use Rattle.book.specs.declared.Answer.the-variants.{Read}
 use Rattle.book.specs.declared.Counts.{Counts}
+use Rattle.book.specs.Book.{counts}
 use Rattle.book.specs.Reading.{readAs, reading}
-use Rattle.book.specs.Loaded.{entries-length}
-use Rattle.book.specs.Tables.{Tables}
+use Rattle.book.specs.Loaded.{sets-entries}
+use Rattle.book.specs.Tables.{IsLoaded}
 use Rattle.book.proofs.Loop.{Reached, nothing, started, finished, stopped, within, onward, not-both, same-book}
 use Rattle.book.proofs.load.Statement.{statement}
 use Rattle.book.proofs.load.Tie as tie
@@ -49,14 +50,14 @@ field-requires c κs =
     let vertices = ap (λ (d : Counts). d .vertices) (r .so-far) in
     let arcs = ap (λ (d : Counts). d .arcs) (r .so-far) in (
       c .before .before .before .before .loop-test .taken,
-      (omega (arith, vertices, r .well .few-vertices), (omega (arith, arcs, r .few-arcs), entries-length (r .well) (r .tables .paths-are))),
+      (omega (arith, vertices, r .tables .graph .well .few-vertices), (omega (arith, arcs, r .few-arcs), sets-entries (r .tables .sets))),
     )
 
 returns-2 : tie.Need-returns-2 Inv-loop μ-loop
 returns-2 c =
     let here = c .before .before in
     let r = reached here in
-    let done = here .field .ensures (r .book) (r .so-far) (r .well) (r .tables) in
+    let done = here .field .ensures (r .book) (r .so-far) (r .tables) in
     let is = stopped _ _ _ _ _ _ _ r (here .before .before .before .before .before .loop-test .taken) _ (done .0) _ (c .enum-told .given .1) in
     (c .enum-told .given .1 ∙ sym (ap readAs is), λ b e. absurd (not-both _ b _ e is))
 
@@ -64,7 +65,7 @@ field-end-requires : tie.Need-field-end-requires Inv-loop μ-loop
 field-end-requires c κs =
     let here = c .before .before .before in
     let r = reached here in
-    let done = here .field .ensures (r .book) (r .so-far) (r .well) (r .tables) in
+    let done = here .field .ensures (r .book) (r .so-far) (r .tables) in
     omega (arith, within _ _ _ _ _ _ _ r (here .before .before .before .before .before .loop-test .taken) _ (done .0) _ (c .before .step .given .1))
 
 loop-less : tie.Need-loop-less Inv-loop μ-loop
@@ -76,7 +77,7 @@ loop-again : tie.Need-loop-again Inv-loop μ-loop
 loop-again c =
     let here = c .before .before .before .before in
     let r = reached here in
-    let done = here .field .ensures (r .book) (r .so-far) (r .well) (r .tables) in
+    let done = here .field .ensures (r .book) (r .so-far) (r .tables) in
     onward _ _ _ _ _ _ _ r (here .before .before .before .before .before .loop-test .taken) _ (done .0) _ (c .before .before .step .given .1)
     _ (c .field-end .ensures) _ _ _ _ (done .1)
 
@@ -85,8 +86,9 @@ returns-3 c =
     let r = c .before .loop .inv in
     let is = finished _ _ _ _ _ _ _ r (c .loop-test .left) in (
       ap Read (r .so-far) ∙ sym (ap readAs is),
-      λ b e. subst (λ x. Tables x (c .before .loop .weights) (c .before .loop .flags) (c .before .loop .owners) (c .before .loop .entries))
-          (same-book (r .book) b (sym is ∙ e)) (r .tables),
+      λ b e. subst (λ x. IsLoaded x (counts x) (c .before .loop .weights) (c .before .loop .flags) (c .before .loop .owners) (c .before .loop .entries))
+          (same-book (r .book) b (sym is ∙ e))
+          (subst (λ d. IsLoaded (r .book) d (c .before .loop .weights) (c .before .loop .flags) (c .before .loop .owners) (c .before .loop .entries)) (r .so-far) (r .tables)),
     )
 
 pub load-spec : {M : Type 1} → statement M

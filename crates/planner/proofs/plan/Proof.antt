@@ -42,7 +42,7 @@ book c =
 plan-in-requires : tie.Need-plan-in-requires
 plan-in-requires c κs =
     let b = book (c .before .before) in
-    (b .book, b .graph)
+    (b .book, b .tables .graph)
 
 returns-2 : tie.Need-returns-2
 returns-2 c =
@@ -51,7 +51,7 @@ returns-2 c =
     let b = book read in
     let a = read .before .before .before .before .before .before .before .before .before .before .before .args in
     subst (λ x. PlanningOf x (now (a .paths)) (a .count) (a .start) (a .end) (now (a .walk)) (call .plan-in .result) (call .plan-in .last .1 .1 .1 .1 .1 .1 .0))
-    (sym (b .is)) (call .plan-in .ensures (b .book) (b .graph))
+    (sym (b .is)) (call .plan-in .ensures (b .book) (b .tables .graph))
 
 pub plan-spec : {M : Type 1} → statement M
 plan-spec =

@@ -35,7 +35,7 @@ gathered : (c : tie.After-gather)
     (c .gather .result ≡ length F) × (c .gather .last .1 .1 .1 .1 .1 .0 ≡ written F)
 gathered c =
     let read = c .before .before .before .before .before .before .before in
-    c .gather .ensures (book read .book) (book read .sets)
+    c .gather .ensures (book read .book) (book read .tables .sets)
 
 returns : tie.Need-returns
 returns c =
@@ -44,7 +44,7 @@ returns c =
     bind-small (now (a .bytes)) (a .flags) (now (a .area)) (book read .book) (book read .is) (c .if1 .taken)
 
 slice-aggregate-gather : tie.Need-slice-aggregate-gather
-slice-aggregate-gather c = sym (sets-entries (book (c .before .before .before .before .before) .sets))
+slice-aggregate-gather c = sym (sets-entries (book (c .before .before .before .before .before) .tables .sets))
 
 slice-aggregate-gather-2 : tie.Need-slice-aggregate-gather-2
 slice-aggregate-gather-2 c = search needs
@@ -52,7 +52,7 @@ slice-aggregate-gather-2 c = search needs
 gather-requires : tie.Need-gather-requires
 gather-requires c κs =
     let b = book (c .before .before .before .before .before .before) in
-    ((b .book, b .sets), refl)
+    ((b .book, b .tables .sets), refl)
 
 slice-aggregate-copy : tie.Need-slice-aggregate-copy
 slice-aggregate-copy c = search needs
@@ -76,7 +76,7 @@ returns-3 c =
     let read = gather .before .before .before .before .before .before .before in
     let a = read .before .before .before .before .before .before .before .before .before .args in
     let b = book read in
-    bind-known (now (a .bytes)) (a .flags) (now (a .area)) (b .book) (b .is) (b .graph .well) (gather .before .before .before .before .before .if1 .left) _ _ _ (gathered gather .0) (gathered gather .1) (copied .copy .ensures)
+    bind-known (now (a .bytes)) (a .flags) (now (a .area)) (b .book) (b .is) (b .tables .graph .well) (gather .before .before .before .before .before .if1 .left) _ _ _ (gathered gather .0) (gathered gather .1) (copied .copy .ensures)
 
 pub bind-spec : {M : Type 1} → statement M
 bind-spec =

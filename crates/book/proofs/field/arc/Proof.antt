@@ -1,13 +1,9 @@
 -- `field::arc` meets its contract: the arc that was read is entered, and counted where it is.
 use borrow.Author.Needs.{needs}
 use denote.Ref.{now}
-use mathlib.Core.List.{List}
-use mathlib.Core.Path.{_≡_, ap}
+use mathlib.Core.Path.{_≡_}
 use Rattle.walks.specs.Graph.{Arc}
-use Rattle.book.specs.declared.Counts.{Counts}
-use Rattle.book.specs.Book.{Book, WellFormed, counts}
 use Rattle.book.specs.Reading.{arcAt}
-use Rattle.book.specs.Tables.{IsGraph, weightTable}
 use Rattle.book.proofs.ArcField.{field-refused, field-added}
 use Rattle.book.proofs.field.arc.Statement.{statement}
 use Rattle.book.proofs.field.arc.Tie as tie
@@ -61,20 +57,17 @@ arc-read c =
       weight = c .before .before .u32-at .ensures i;
     }
 
-is-graph : (c : Counts) (b : Book) (t : List _) → c ≡ counts b → WellFormed b → t ≡ weightTable (b .arcs) → IsGraph b (c .vertices) t
-is-graph c b t so-far w held = record { well = w; vertices-are = ap (λ (d : Counts). d .vertices) so-far; weights-are = held }
-
 returns : tie.Need-returns
-returns c b so-far w held =
+returns c b so-far held =
     let q = c .before .before .before in
     let a = q .before .before .before .before .before .before .before .before .args in
-    field-refused (now (a .bytes)) b (a .at) (arc-of q) (arc-read q) _ _ (q .enter-arc .ensures b (is-graph (a .counts) b (now (a .weights)) so-far w held)) _ (c .before .r .given .1)
+    field-refused (now (a .bytes)) b (a .at) (arc-of q) (arc-read q) _ _ (q .enter-arc .ensures b held) _ (c .before .r .given .1)
 
 returns-2 : tie.Need-returns-2
-returns-2 c b so-far w held =
+returns-2 c b so-far held =
     let q = c .before .before .before in
     let a = q .before .before .before .before .before .before .before .before .args in
-    field-added (now (a .bytes)) b (a .at) (arc-of q) (arc-read q) _ _ (q .enter-arc .ensures b (is-graph (a .counts) b (now (a .weights)) so-far w held)) (a .counts) so-far (c .before .enum-told .given .1)
+    field-added (now (a .bytes)) b (a .at) (arc-of q) (arc-read q) _ _ (q .enter-arc .ensures b held) (a .counts) so-far (c .before .enum-told .given .1)
 
 pub arc-spec : {M : Type 1} → statement M
 arc-spec =

@@ -3,20 +3,17 @@ use borrow.Author.Needs.{needs}
 use borrow.Author.Tests.{eqb-true, leb-true}
 use denote.Ref.{now}
 use mathlib.Core.Bool.{false≢true}
-use mathlib.Core.List.{List}
 use mathlib.Core.Path.{_≡_, sym, ap, subst, _∙_}
 use native.Mathlib.Omega.{arith}
-use Prim.Native.Nat.{ℕ}
 use lib.Dec.{leb}
-use Rattle.book.specs.declared.Answer.{Answer}
 use Rattle.book.specs.declared.Kind.{Kind}
 use Rattle.book.specs.declared.Kind.the-variants.{VertexCount, Arc, RuleSet, Path, Unknown}
 use Rattle.lists.specs.Test.{and-true}
 use Rattle.book.specs.Book.{Book, counts}
 use Rattle.book.specs.BookLaws.{not-zero}
 use Rattle.book.specs.Reading.{readAs, lengthAt, taken, kept, field}
-use Rattle.book.specs.Tables.{Tables}
-use Rattle.book.proofs.Fields.{Framed, framed-passed, field-refused, field-taken, tables-count, tables-arc, tables-set, tables-path}
+use Rattle.book.specs.Tables.{IsLoaded}
+use Rattle.book.proofs.Fields.{Framed, framed-passed, field-refused, field-taken, with-count, with-arc, with-set, with-path}
 use Rattle.book.proofs.field.field.Statement.{statement}
 use Rattle.book.proofs.field.field.Tie as tie
 
@@ -58,25 +55,22 @@ whole c k is =
     let a = told .before .before .before .before .args in
     framed-passed (now (a .bytes)) (a .at) (a .counts) _ k (sym (told .before .before .frame .ensures) ∙ told .enum-told .given .1) (sym is ∙ c .kind-of .ensures)
 
--- what its kind answers is the field's
-finish : (c : tie.After-kind-of) (k : Kind) → c .kind-of .result ≡ k
+-- what its kind takes is the field
+same-field : (c : tie.After-kind-of) (k : Kind) → c .kind-of .result ≡ k
     → let a = c .before .before .before .before .before .before .args in
-    (b : Book) → a .counts ≡ counts b → (x : Answer) (w f o p : List ℕ)
-    → x ≡ readAs (taken k (now (a .bytes)) b (a .at)) → Tables (kept b (taken k (now (a .bytes)) b (a .at))) w f o p
-    → (x ≡ readAs (field (now (a .bytes)) b (a .at))) × Tables (kept b (field (now (a .bytes)) b (a .at))) w f o p
-finish c k is b so-far x w f o p answers tables =
+    (b : Book) → a .counts ≡ counts b → taken k (now (a .bytes)) b (a .at) ≡ field (now (a .bytes)) b (a .at)
+same-field c k is b so-far =
     let told = c .before .before in
     let a = told .before .before .before .before .args in
-    let same : taken k (now (a .bytes)) b (a .at) ≡ field (now (a .bytes)) b (a .at) =
-    sym (field-taken (now (a .bytes)) (a .at) (a .counts) b so-far _ k (sym (told .before .before .frame .ensures) ∙ told .enum-told .given .1) (sym is ∙ c .kind-of .ensures)) in
-    (answers ∙ ap readAs same, subst (λ r. Tables (kept b r) w f o p) same tables)
+    sym (field-taken (now (a .bytes)) (a .at) (a .counts) b so-far _ k (sym (told .before .before .frame .ensures) ∙ told .enum-told .given .1) (sym is ∙ c .kind-of .ensures))
 
 returns : tie.Need-returns
-returns c b so-far w held =
+returns c b so-far held =
     let a = c .before .before .before .before .args in
     let is = sym (field-refused (now (a .bytes)) (a .at) (a .counts) b so-far _ (sym (c .before .before .frame .ensures) ∙ c .enum-told2 .given .1)) in (
       c .enum-told2 .given .1 ∙ ap readAs is,
-      subst (λ r. Tables (kept b r) (now (a .weights)) (now (a .flags)) (now (a .owners)) (now (a .entries))) is held,
+      subst (λ r. IsLoaded (kept b r) (counts (kept b r)) (now (a .weights)) (now (a .flags)) (now (a .owners)) (now (a .entries))) is
+          (subst (λ d. IsLoaded b d (now (a .weights)) (now (a .flags)) (now (a .owners)) (now (a .entries))) so-far held),
     )
 
 vertex-count-requires : tie.Need-vertex-count-requires
@@ -110,36 +104,38 @@ path-requires c κs =
     (frame .whole, (leb-true n 8 (and-true (leb 2 n) (leb n 8) (frame .fit) .1), (not-zero (a .counts .sets) (frame .order), here .before .before .before .before .before .before .pre .1 .1 .1)))
 
 returns-2 : tie.Need-returns-2
-returns-2 c b so-far w held =
+returns-2 c b so-far held =
     let here = c .before .before .before in
     let a = here .before .before .before .before .before .before .args in
-    finish here VertexCount (c .before .enum-told3 .given .1) b so-far _ _ _ _ _ (c .vertex-count .ensures b so-far)
-    (tables-count (now (a .bytes)) b (a .at) _ _ _ _ held)
+    let same = same-field here VertexCount (c .before .enum-told3 .given .1) b so-far in
+    (c .vertex-count .ensures b so-far ∙ ap readAs same, with-count (now (a .bytes)) b (a .at) held same)
 
 returns-3 : tie.Need-returns-3
-returns-3 c b so-far w held =
+returns-3 c b so-far held =
     let here = c .before .before .before .before in
     let a = here .before .before .before .before .before .before .args in
-    let done = c .arc .ensures b so-far w (held .weights-are) in
-    finish here Arc (c .before .before .enum-told4 .given .1) b so-far _ _ _ _ _ (done .0) (tables-arc (now (a .bytes)) b (a .at) _ _ _ _ _ held (done .1))
+    let same = same-field here Arc (c .before .before .enum-told4 .given .1) b so-far in
+    let done = c .arc .ensures b so-far (held .graph) in
+    (done .0 ∙ ap readAs same, with-arc (now (a .bytes)) b (a .at) held same (done .1))
 
 returns-4 : tie.Need-returns-4
-returns-4 c b so-far w held =
+returns-4 c b so-far held =
     let here = c .before .before .before .before in
     let a = here .before .before .before .before .before .before .args in
-    let done = c .rule-set .ensures b so-far (held .flags-are) in
-    finish here RuleSet (c .before .before .enum-told5 .given .1) b so-far _ _ _ _ _ (done .0) (tables-set (now (a .bytes)) b (a .at) _ _ _ _ _ held (done .1))
+    let same = same-field here RuleSet (c .before .before .enum-told5 .given .1) b so-far in
+    let done = c .rule-set .ensures b so-far (held .sets .flags-are) in
+    (done .0 ∙ ap readAs same, with-set (now (a .bytes)) b (a .at) held same (done .1))
 
 returns-5 : tie.Need-returns-5
-returns-5 c b so-far w held =
+returns-5 c b so-far held =
     let here = c .before .before .before .before .before in
     let a = here .before .before .before .before .before .before .args in
-    let done = c .path .ensures b so-far w (held .owners-are) (held .paths-are) in
-    finish here Path (c .before .before .before .enum-told6 .given .1) b so-far _ _ _ _ _ (done .0)
-    (tables-path (now (a .bytes)) b (a .at) _ _ _ _ _ _ held (done .1) (done .2))
+    let same = same-field here Path (c .before .before .before .enum-told6 .given .1) b so-far in
+    let done = c .path .ensures b so-far (held .graph .well) (held .sets .owners-are) (held .sets .paths-are) in
+    (done .0 ∙ ap readAs same, with-path (now (a .bytes)) b (a .at) held same (done .1) (done .2))
 
 returns-6 : tie.Need-returns-6
-returns-6 c b so-far w held = absurd (false≢true (whole (c .before .before) Unknown (c .enum-told7 .given .1) .order))
+returns-6 c b so-far held = absurd (false≢true (whole (c .before .before) Unknown (c .enum-told7 .given .1) .order))
 
 pub field-spec : {M : Type 1} → statement M
 field-spec =

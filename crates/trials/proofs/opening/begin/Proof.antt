@@ -29,10 +29,10 @@ book c =
     (load .load .ensures .0) (load .load .ensures .1) (c .read2 .given .1)
 
 slice-aggregate-begin-in : tie.Need-slice-aggregate-begin-in
-slice-aggregate-begin-in c = sym (sets-entries (book (c .before .before .before .before .before) .sets))
+slice-aggregate-begin-in c = sym (sets-entries (book (c .before .before .before .before .before) .tables .sets))
 
 begin-in-requires : tie.Need-begin-in-requires
-begin-in-requires c κs = let b = book (c .before .before .before .before .before .before .before) in (b .book, b .graph, b .sets)
+begin-in-requires c κs = let b = book (c .before .before .before .before .before .before .before) in (b .book, b .tables)
 
 returns : tie.Need-returns
 returns c =
@@ -52,7 +52,7 @@ returns-2 c =
     let read = call .before .before .before .before .before .before .before .before in
     let b = book read in
     let a = read .before .before .before .before .before .before .before .before .before .before .args in
-    call .begin-in .ensures (b .book) (b .graph) (b .sets) ∙ sym (ap (λ x. beginningOf x (a .flags) (a .start) (a .end) (now (a .paths)) (now (a .walk))) (b .is))
+    call .begin-in .ensures (b .book) (b .tables) ∙ sym (ap (λ x. beginningOf x (a .flags) (a .start) (a .end) (now (a .paths)) (now (a .walk))) (b .is))
 
 pub begin-spec : {M : Type 1} → statement M
 begin-spec =

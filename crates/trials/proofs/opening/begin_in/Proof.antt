@@ -21,34 +21,34 @@ use Rattle.trials.proofs.opening.begin_in.Statement.{statement}
 use Rattle.trials.proofs.opening.begin_in.Tie as tie
 
 returns : tie.Need-returns
-returns c b g s =
+returns c b h =
     let a = c .before .before .before .before .args in
     begin-fails b (a .flags) (a .start) (a .end) (now (a .paths)) (now (a .walk)) (here (lt-leb _ _ (c .if1 .taken)))
 
 returns-2 : tie.Need-returns-2
-returns-2 c b g s =
+returns-2 c b h =
     let a = c .before .before .before .before .before .args in
     begin-fails b (a .flags) (a .start) (a .end) (now (a .paths)) (now (a .walk)) (later (le-leb _ _ (c .before .if1 .left)) (here (lt-leb _ _ (c .if2 .taken))))
 
 returns-3 : tie.Need-returns-3
-returns-3 c b g s =
+returns-3 c b h =
     let a = c .before .before .before .before .before .before .args in
     begin-fails b (a .flags) (a .start) (a .end) (now (a .paths)) (now (a .walk))
     (later (le-leb _ _ (c .before .before .if1 .left))
-    (later (le-leb _ _ (c .before .if2 .left)) (here (le-ltb (a .start) (b .count) (omega (arith, g .vertices-are, c .if3 .taken))))))
+    (later (le-leb _ _ (c .before .if2 .left)) (here (le-ltb (a .start) (b .count) (omega (arith, h .graph .vertices-are, c .if3 .taken))))))
 
 returns-4 : tie.Need-returns-4
-returns-4 c b g s =
+returns-4 c b h =
     let a = c .before .before .before .before .before .before .before .args in
     begin-fails b (a .flags) (a .start) (a .end) (now (a .paths)) (now (a .walk))
     (later (le-leb _ _ (c .before .before .before .if1 .left))
     (later (le-leb _ _ (c .before .before .if2 .left))
-    (later (lt-ltb (a .start) (b .count) (omega (arith, g .vertices-are, c .before .if3 .left))) (here (le-ltb (a .end) (b .count) (omega (arith, g .vertices-are, c .if4 .taken)))))))
+    (later (lt-ltb (a .start) (b .count) (omega (arith, h .graph .vertices-are, c .before .if3 .left))) (here (le-ltb (a .end) (b .count) (omega (arith, h .graph .vertices-are, c .if4 .taken)))))))
 
 -- nothing is refused
 tested : (c : tie.Else4)
     → let a = c .before .before .before .before .before .before .before .args in
-    (b : Book) → IsGraph b (a .vertices) (now (a .weights)) → Hold (beginTests (graph b) (a .start) (a .end) (now (a .paths)) (now (a .walk)))
+    (b : Book) → IsGraph b (a .counts .vertices) (now (a .weights)) → Hold (beginTests (graph b) (a .start) (a .end) (now (a .paths)) (now (a .walk)))
 tested c b g =
     let a = c .before .before .before .before .before .before .before .args in (
       le-leb _ _ (c .before .before .before .if1 .left),
@@ -67,7 +67,7 @@ gather-requires c κs = search needs
 -- the paths that are known
 gathered : (c : tie.After-gather)
     → let a = c .before .before .before .before .before .before .before .before .before .args in
-    (b : Book) → IsSets b (a .listed) (now (a .needed)) (now (a .owners)) (now (a .entries))
+    (b : Book) → IsSets b (a .counts .paths) (now (a .needed)) (now (a .owners)) (now (a .entries))
     → (c .gather .result ≡ length (known (a .flags) (b .sets))) × (c .gather .last .1 .1 .1 .1 .1 .0 ≡ written (known (a .flags) (b .sets)))
 gathered c = c .gather .ensures
 
@@ -80,11 +80,11 @@ find-requires c κs =
     let else4 = call .before .before in
     let start = else4 .before .before .before .before .before .before .before in
     let a = start .args in
-    let (b, g, s) = start .pre in
-    let (counted, filled) = gathered call b s in (
-      (b, g),
+    let (b, h) = start .pre in
+    let (counted, filled) = gathered call b (h .sets) in (
+      (b, h .graph),
       (
-        ap (λ n. valid n (call .gather .last .1 .1 .1 .1 .1 .0) (call .gather .result)) (g .vertices-are) ∙ gathered-valid (a .flags) b (g .well) counted filled,
+        ap (λ n. valid n (call .gather .last .1 .1 .1 .1 .1 .0) (call .gather .result)) (h .graph .vertices-are) ∙ gathered-valid (a .flags) b (h .graph .well) counted filled,
         (else4 .before .if3 .left, else4 .before .before .if2 .left),
       ),
     )
@@ -105,10 +105,10 @@ replanned-requires c κs =
     let else4 = gather .before .before in
     let start = else4 .before .before .before .before .before .before .before in
     let a = start .args in
-    let (b, g, s) = start .pre in
-    let (counted, filled) = gathered gather b s in
-    begun-short b (a .flags) (a .start) (a .end) (now (a .paths)) (now (a .walk)) (g .well) (tested else4 b g) counted filled
-    (call .find .result) (call .find .last .1 .1 .1 .1 .1 .1 .0) (call .find .ensures b g)
+    let (b, h) = start .pre in
+    let (counted, filled) = gathered gather b (h .sets) in
+    begun-short b (a .flags) (a .start) (a .end) (now (a .paths)) (now (a .walk)) (h .graph .well) (tested else4 b (h .graph)) counted filled
+    (call .find .result) (call .find .last .1 .1 .1 .1 .1 .1 .0) (call .find .ensures b (h .graph))
 
 same-length : tie.Need-same-length
 same-length c = search needs
@@ -117,18 +117,18 @@ same-length-2 : tie.Need-same-length-2
 same-length-2 c = search needs
 
 returns-5 : tie.Need-returns-5
-returns-5 c b g s =
+returns-5 c b h =
     let copy = c .before .before .before .before in
     let call = copy .before .before .before .before .before in
     let gather = call .before .before .before .before in
     let else4 = gather .before .before in
     let a = else4 .before .before .before .before .before .before .before .args in
-    let (counted, filled) = gathered gather b s in
+    let (counted, filled) = gathered gather b (h .sets) in
     let f = call .find .result in
     let new = call .find .last .1 .1 .1 .1 .1 .1 .0 in
     ap (λ (z : Record). answering (Begun.Record z) (copy .copy .last .1 .1 .0) new) (c .replanned .ensures ∙ ap (λ (z : Record). replanned z f) (c .before .new .ensures))
     ∙ ap (λ l. answering (Begun.Record (replanned (fresh (a .start) (a .end) (gather .gather .result)) f)) l new) (copy .copy .ensures)
-    ∙ begun b (a .flags) (a .start) (a .end) (now (a .paths)) (now (a .walk)) (g .well) (tested else4 b g) counted filled f new (call .find .ensures b g)
+    ∙ begun b (a .flags) (a .start) (a .end) (now (a .paths)) (now (a .walk)) (h .graph .well) (tested else4 b (h .graph)) counted filled f new (call .find .ensures b (h .graph))
 
 pub begin-in-spec : {M : Type 1} → statement M
 begin-in-spec =

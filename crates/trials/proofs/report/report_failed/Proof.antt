@@ -31,7 +31,7 @@ enum-known-read-2 c = search needs
 accept-failed-requires : tie.Need-accept-failed-requires
 accept-failed-requires c κs =
     let b = book (c .before .before .before) in
-    (b .book, b .graph)
+    (b .book, b .tables .graph)
 
 returns : tie.Need-returns
 returns c =
@@ -49,7 +49,7 @@ returns-2 : tie.Need-returns-2
 returns-2 c =
     let told = c .before .before .before .before .before .before .before .before in
     let a = c .before .before .before .before .before .before .before .before .before .before .before .before .before .before .before .before .before .before .before .before .args in
-    c .before .before .before .before .accept-failed .ensures (book told .book) (book told .graph) ∙ sym (ap (λ x. reportingOf x (a .rec) (now (a .paths)) (now (a .walk)) (failed (now (a .named)))) (book told .is))
+    c .before .before .before .before .accept-failed .ensures (book told .book) (book told .tables .graph) ∙ sym (ap (λ x. reportingOf x (a .rec) (now (a .paths)) (now (a .walk)) (failed (now (a .named)))) (book told .is))
 
 pub report-failed-spec : {M : Type 1} → statement M
 report-failed-spec =

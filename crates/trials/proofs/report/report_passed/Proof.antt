@@ -31,7 +31,7 @@ enum-known-read-2 c = search needs
 accept-passed-requires : tie.Need-accept-passed-requires
 accept-passed-requires c κs =
     let b = book (c .before) in
-    (b .book, b .graph)
+    (b .book, b .tables .graph)
 
 returns : tie.Need-returns
 returns c =
@@ -43,7 +43,7 @@ returns-2 : tie.Need-returns-2
 returns-2 c =
     let told = c .before .before in
     let a = c .before .before .before .before .before .before .before .before .before .before .before .before .before .args in
-    c .accept-passed .ensures (book told .book) (book told .graph) ∙ sym (ap (λ x. reportingOf x (a .rec) (now (a .paths)) (now (a .walk)) passed) (book told .is))
+    c .accept-passed .ensures (book told .book) (book told .tables .graph) ∙ sym (ap (λ x. reportingOf x (a .rec) (now (a .paths)) (now (a .walk)) passed) (book told .is))
 
 pub report-passed-spec : {M : Type 1} → statement M
 report-passed-spec =
