@@ -103,21 +103,21 @@ module _ (area : List ℕ) (count : ℕ) (w : List ℕ) (room : count * 9 ≤ le
           → any fits (blocks (count - k) (drop (k * 9) area)) ≡ any fits (blocks (count - (k + 1)) (drop ((k + 1) * 9) area))
       other-length ne = any-later fits count k area more (rw (size, ne-eqb _ _ ne))
 
-      module _ (place : ℕ) (length-is : getD area (k * 9) 0 ≡ n) (place-is : place ≡ e - n) (begins : n ≤ e) (ends : e ≤ length w) where
+      module _ (length-is : getD area (k * 9) 0 ≡ n) (begins : n ≤ e) (ends : e ≤ length w) where
         -- the path and the part of the walk that it is held against
-        compared : fits (take 9 (drop (k * 9) area)) ≡ same (take n (drop (k * 9 + 1) area)) (take n (drop place w))
+        compared : fits (take 9 (drop (k * 9) area)) ≡ same (take n (drop (k * 9 + 1) area)) (take n (drop (e - n) w))
         compared =
             let path = pathOf (take 9 (drop (k * 9) area)) in
             let size-is : length path ≡ n = size ∙ length-is in
-            let end-is : e ≡ place + n = omega arith in
+            let end-is : e ≡ e - n + n = omega arith in
             ap (λ m. eqb m n && (leb m e && same path (slice (e - m) e w))) size-is
             ∙ rw (eq-eqb n n refl, le-leb _ _ begins)
             (ap₂ same (path-part area (k * 9) n length-is (omega (arith, byte-fits)))
-            (ap₂ (λ i j. slice i j w) (sym place-is) end-is ∙ slice-part place n w (omega arith)))
+            (ap (λ j. slice (e - n) j w) end-is ∙ slice-part (e - n) n w (omega arith)))
 
-        pub differs : same (take n (drop (k * 9 + 1) area)) (take n (drop place w)) ≡ false
+        pub differs : same (take n (drop (k * 9 + 1) area)) (take n (drop (e - n) w)) ≡ false
             → any fits (blocks (count - k) (drop (k * 9) area)) ≡ any fits (blocks (count - (k + 1)) (drop ((k + 1) * 9) area))
         differs no-match = any-later fits count k area more (compared ∙ no-match)
 
-        pub stands : same (take n (drop (k * 9 + 1) area)) (take n (drop place w)) ≡ true → any fits (blocks (count - k) (drop (k * 9) area)) ≡ true
+        pub stands : same (take n (drop (k * 9 + 1) area)) (take n (drop (e - n) w)) ≡ true → any fits (blocks (count - k) (drop (k * 9) area)) ≡ true
         stands match = any-here fits count k area more (compared ∙ match)

@@ -51,262 +51,154 @@ Inv-ends area count walk answer₀ end₀ answer end =
 abbrev μ-ends : tie.MeasureT-ends
 μ-ends area count walk answer₀ end₀ answer end = length walk + 1 - end
 
--- the length that is tried is at most the end
-begins-at : (c : tie.Then1 Inv-loop2 μ-loop2 Inv-paths μ-paths Inv-loop μ-loop Inv-ends μ-ends) → c .before .before .loop .n ≤ c .before .before .before .before .ends .end
-begins-at c = leb-true _ _ (c .if1 .taken)
+-- ---- the states of the loops over the ends, the lengths and the paths; each stands in a turn of the one before it
+abbrev Ends : Type 0
+Ends = tie.At-ends Inv-loop2 μ-loop2 Inv-paths μ-paths Inv-loop μ-loop Inv-ends μ-ends
 
--- A path of the length that is tried: what the loops around it know of its entry and of the walk.
-module _ (e : tie.Else2 Inv-loop2 μ-loop2 Inv-paths μ-paths Inv-loop μ-loop Inv-ends μ-ends) where
+abbrev Lengths : Type 0
+Lengths = tie.At-loop Inv-loop2 μ-loop2 Inv-paths μ-paths Inv-loop μ-loop Inv-ends μ-ends
+
+abbrev Paths : Type 0
+Paths = tie.At-paths Inv-loop2 μ-loop2 Inv-paths μ-paths Inv-loop μ-loop Inv-ends μ-ends
+
+module _ (s : Ends) where
   abbrev area : List ℕ
-  area = now (e .before .before .before .before .before .before .before .before .before .before .before .before .args .area)
+  area = now (s .before .before .before .args .area)
 
   abbrev walk : List ℕ
-  walk = now (e .before .before .before .before .before .before .before .before .before .before .before .before .args .walk)
+  walk = now (s .before .before .before .args .walk)
 
   abbrev count : ℕ
-  count = e .before .before .before .before .before .before .before .before .before .before .before .before .args .count
+  count = s .before .before .before .args .count
 
   abbrev end : ℕ
-  end = e .before .before .before .before .before .before .before .before .before .ends .end
+  end = s .ends .end
 
-  abbrev n : ℕ
-  n = e .before .before .before .before .before .before .before .loop .n
-
-  abbrev k : ℕ
-  k = e .before .before .before .before .paths .k
-
-  more : k < count
-  more = e .before .before .before .paths-test .taken
-
-  length-is : getD area (k * entrySize) 0 ≡ n
-  length-is = sym (e .before .wide .ensures .0) ∙ e .if2 .left
-
-  begins : n ≤ end
-  begins = begins-at (e .before .before .before .before .before)
-
-  ends : end ≤ length walk
-  ends = omega (arith, e .before .before .before .before .before .before .before .before .ends-test .taken)
+  abbrev known : List (List ℕ)
+  known = spelled count area
 
   room : count * entrySize ≤ length area
-  room = e .before .before .before .before .before .before .before .before .before .before .before .before .pre .0
+  room = s .before .before .before .pre .0
 
   fit : All (λ x. getD x 0 0 ≤ longestPath) (blocks count area)
-  fit = e .before .before .before .before .before .before .before .before .before .before .before .before .pre .1
+  fit = s .before .before .before .pre .1
 
-  in-area : k * entrySize + 1 + n ≤ length area
-  in-area = omega (arith, room, more, e .before .before .before .before .before .before .loop-test .taken)
+module _ (l : Lengths) where
+  abbrev ends-of : Ends
+  ends-of = l .before .before
 
-  in-walk : end - n + n ≤ length walk
-  in-walk = omega (arith, begins, ends)
+  abbrev n : ℕ
+  n = l .loop .n
 
-ends-holds :
-    tie.Need-ends-holds Inv-loop2 μ-loop2 Inv-paths μ-paths Inv-loop μ-loop Inv-ends μ-ends
+  ends : end ends-of ≤ length (walk ends-of)
+  ends = omega (arith, l .before .ends-test .taken)
+
+-- the length that is tried is at most the end
+begins-at : (c : tie.Then1 Inv-loop2 μ-loop2 Inv-paths μ-paths Inv-loop μ-loop Inv-ends μ-ends) → n (c .before .before) ≤ end (ends-of (c .before .before))
+begins-at c = leb-true _ _ (c .if1 .taken)
+
+module _ (p : Paths) where
+  abbrev lengths-of : Lengths
+  lengths-of = p .before .before .before
+
+  abbrev k : ℕ
+  k = p .paths .k
+
+-- A path of the length that is tried, held against the walk.
+module _ (e : tie.Else2 Inv-loop2 μ-loop2 Inv-paths μ-paths Inv-loop μ-loop Inv-ends μ-ends) where
+  abbrev paths-of : Paths
+  paths-of = e .before .before .before .before
+
+  more : k paths-of < count (ends-of (lengths-of paths-of))
+  more = e .before .before .before .paths-test .taken
+
+  length-is : getD (area (ends-of (lengths-of paths-of))) (k paths-of * entrySize) 0 ≡ n (lengths-of paths-of)
+  length-is = sym (e .before .wide .ensures .0) ∙ e .if2 .left
+
+  in-area : k paths-of * entrySize + 1 + n (lengths-of paths-of) ≤ length (area (ends-of (lengths-of paths-of)))
+  in-area = omega (arith, room (ends-of (lengths-of paths-of)), more, paths-of .before .before .loop-test .taken)
+
+  in-walk : end (ends-of (lengths-of paths-of)) - n (lengths-of paths-of) + n (lengths-of paths-of) ≤ length (walk (ends-of (lengths-of paths-of)))
+  in-walk = omega (arith, begins-at (paths-of .before), ends (lengths-of paths-of))
+
+ends-holds : tie.Need-ends-holds Inv-loop2 μ-loop2 Inv-paths μ-paths Inv-loop μ-loop Inv-ends μ-ends
 ends-holds c =
     let a = c .before .before .args in
     (omega arith, omega arith, refl, ap (λ k. checkFrom (spelled (a .count) (now (a .area))) (now (a .walk)) k 1) (let all-left : length (now (a .walk)) + 1 - 1 ≡ length (now (a .walk)) = omega arith in all-left))
 
-loop-holds :
-    tie.Need-loop-holds Inv-loop2 μ-loop2 Inv-paths μ-paths Inv-loop μ-loop Inv-ends μ-ends
-loop-holds c = (omega arith, omega arith, c .before .ends .inv .2, refl)
-
-sub-place : tie.Need-sub-place Inv-loop2 μ-loop2 Inv-paths μ-paths Inv-loop μ-loop Inv-ends μ-ends
-sub-place c = begins-at c
-
-paths-holds :
-    tie.Need-paths-holds Inv-loop2 μ-loop2 Inv-paths μ-paths Inv-loop μ-loop Inv-ends μ-ends
+paths-holds : tie.Need-paths-holds Inv-loop2 μ-loop2 Inv-paths μ-paths Inv-loop μ-loop Inv-ends μ-ends
 paths-holds c =
-    let then1 = c in
-    let at-loop = then1 .before .before in
-    let at-ends = at-loop .before .before in
-    let start = at-ends .before .before .before in
-    let a = start .args in
-    (omega arith, at-loop .loop .inv .2, paths-start (now (a .area)) (a .count) (now (a .walk)) (start .pre .0) (start .pre .1) (at-ends .ends .end) (at-loop .loop .n))
+    let l = c .before .before in
+    let s = ends-of l in
+    (omega arith, l .loop .inv .2, paths-start (area s) (count s) (walk s) (room s) (fit s) (end s) (n l))
 
-mul-at : tie.Need-mul-at Inv-loop2 μ-loop2 Inv-paths μ-paths Inv-loop μ-loop Inv-ends μ-ends
-mul-at c = search needs
+entry-read : tie.Need-shared-slice-read-wide Inv-loop2 μ-loop2 Inv-paths μ-paths Inv-loop μ-loop Inv-ends μ-ends
+entry-read c = omega (arith, room (ends-of (lengths-of (c .before .before))), c .before .paths-test .taken)
 
-add-k : tie.Need-add-k Inv-loop2 μ-loop2 Inv-paths μ-paths Inv-loop μ-loop Inv-ends μ-ends
-add-k c = search needs
-
-shared-slice-read-wide :
-    tie.Need-shared-slice-read-wide
-    Inv-loop2
-    μ-loop2
-    Inv-paths
-    μ-paths
-    Inv-loop
-    μ-loop
-    Inv-ends
-    μ-ends
-shared-slice-read-wide c =
-    let at-paths = c .before .before in
-    let then1 = at-paths .before in
-    let at-loop = then1 .before .before in
-    let at-ends = at-loop .before .before in
-    let start = at-ends .before .before .before in
-    omega (arith, start .pre .0, c .before .paths-test .taken)
-
-wide-requires :
-    tie.Need-wide-requires Inv-loop2 μ-loop2 Inv-paths μ-paths Inv-loop μ-loop Inv-ends μ-ends
-wide-requires c κs = search needs
-
-paths-less :
-    tie.Need-paths-less Inv-loop2 μ-loop2 Inv-paths μ-paths Inv-loop μ-loop Inv-ends μ-ends
-paths-less c = search needs
-
-paths-again :
-    tie.Need-paths-again Inv-loop2 μ-loop2 Inv-paths μ-paths Inv-loop μ-loop Inv-ends μ-ends
+paths-again : tie.Need-paths-again Inv-loop2 μ-loop2 Inv-paths μ-paths Inv-loop μ-loop Inv-ends μ-ends
 paths-again c =
-    let at-paths = c .before .before .before .before in
-    let then1 = at-paths .before in
-    let at-loop = then1 .before .before in
-    let at-ends = at-loop .before .before in
-    let start = at-ends .before .before .before in
-    let a = start .args in
-    let more = c .before .before .before .paths-test .taken in (
-      omega arith,
-      at-paths .paths .inv .1,
-      sym (other-length (now (a .area)) (a .count) (now (a .walk)) (start .pre .0) (start .pre .1) (at-ends .ends .end) (at-loop .loop .n) (at-paths .paths .k) more (λ e. c .if2 .taken (c .before .wide .ensures .0 ∙ e))) ∙ at-paths .paths .inv .2,
-    )
+    let p = c .before .before .before .before in
+    let l = lengths-of p in
+    let s = ends-of l in
+    let passed = other-length (area s) (count s) (walk s) (room s) (fit s) (end s) (n l) (k p) (c .before .before .before .paths-test .taken) (λ e. c .if2 .taken (c .before .wide .ensures .0 ∙ e)) in
+    (omega arith, p .paths .inv .1, sym passed ∙ p .paths .inv .2)
 
-loop2-holds :
-    tie.Need-loop2-holds Inv-loop2 μ-loop2 Inv-paths μ-paths Inv-loop μ-loop Inv-ends μ-ends
-loop2-holds c = (omega arith, refl)
-
-add-if3 : tie.Need-add-if3 Inv-loop2 μ-loop2 Inv-paths μ-paths Inv-loop μ-loop Inv-ends μ-ends
-add-if3 c = search needs
-
-add-if3-2 : tie.Need-add-if3-2 Inv-loop2 μ-loop2 Inv-paths μ-paths Inv-loop μ-loop Inv-ends μ-ends
-add-if3-2 c = search needs
-
-shared-slice-read-if3 :
-    tie.Need-shared-slice-read-if3
-    Inv-loop2
-    μ-loop2
-    Inv-paths
-    μ-paths
-    Inv-loop
-    μ-loop
-    Inv-ends
-    μ-ends
-shared-slice-read-if3 c = omega (arith, in-area (c .before .before .before), c .before .loop2-test .taken)
-
-add-if3-3 : tie.Need-add-if3-3 Inv-loop2 μ-loop2 Inv-paths μ-paths Inv-loop μ-loop Inv-ends μ-ends
-add-if3-3 c = search needs
-
-shared-slice-read-if3-2 :
-    tie.Need-shared-slice-read-if3-2
-    Inv-loop2
-    μ-loop2
-    Inv-paths
-    μ-paths
-    Inv-loop
-    μ-loop
-    Inv-ends
-    μ-ends
-shared-slice-read-if3-2 c = omega (arith, in-walk (c .before .before .before .before), c .before .before .loop2-test .taken)
-
-paths-less-2 :
-    tie.Need-paths-less-2 Inv-loop2 μ-loop2 Inv-paths μ-paths Inv-loop μ-loop Inv-ends μ-ends
-paths-less-2 c = search needs
-
-paths-again-2 :
-    tie.Need-paths-again-2 Inv-loop2 μ-loop2 Inv-paths μ-paths Inv-loop μ-loop Inv-ends μ-ends
+paths-again-2 : tie.Need-paths-again-2 Inv-loop2 μ-loop2 Inv-paths μ-paths Inv-loop μ-loop Inv-ends μ-ends
 paths-again-2 c =
     let at-loop2 = c .before .before .before .before in
     let e = at-loop2 .before in
-    let at-paths = e .before .before .before .before in (
-      omega arith,
-      at-paths .paths .inv .1,
-      sym (differs (area e) (count e) (walk e) (room e) (fit e) (end e) (n e) (k e) (more e) (end e - n e) (length-is e) refl (begins e) (ends e)
-          (sym (at-loop2 .loop2 .inv .1)
-          ∙ parts-differ (area e) (walk e) (k e * entrySize + 1) (end e - n e) (n e) (in-area e) (in-walk e) (at-loop2 .loop2 .i) (c .before .before .before .loop2-test .taken) (c .if3 .taken)))
-          ∙ at-paths .paths .inv .2,
-    )
+    let p = paths-of e in
+    let l = lengths-of p in
+    let s = ends-of l in
+    let differ = parts-differ (area s) (walk s) (k p * entrySize + 1) (end s - n l) (n l) (in-area e) (in-walk e) (at-loop2 .loop2 .i) (c .before .before .before .loop2-test .taken) (c .if3 .taken) in
+    let passed =
+    differs (area s) (count s) (walk s) (room s) (fit s) (end s) (n l) (k p) (more e) (length-is e) (begins-at (p .before)) (ends l) (sym (at-loop2 .loop2 .inv .1) ∙ differ) in
+    (omega arith, p .paths .inv .1, sym passed ∙ p .paths .inv .2)
 
-add-i : tie.Need-add-i Inv-loop2 μ-loop2 Inv-paths μ-paths Inv-loop μ-loop Inv-ends μ-ends
-add-i c = search needs
-
-loop2-less :
-    tie.Need-loop2-less Inv-loop2 μ-loop2 Inv-paths μ-paths Inv-loop μ-loop Inv-ends μ-ends
-loop2-less c = search needs
-
-loop2-again :
-    tie.Need-loop2-again Inv-loop2 μ-loop2 Inv-paths μ-paths Inv-loop μ-loop Inv-ends μ-ends
+loop2-again : tie.Need-loop2-again Inv-loop2 μ-loop2 Inv-paths μ-paths Inv-loop μ-loop Inv-ends μ-ends
 loop2-again c =
     let at-loop2 = c .before .before .before .before in
-    let e = at-loop2 .before in (
-      omega arith,
-      sym (parts-next (area e) (walk e) (k e * entrySize + 1) (end e - n e) (n e) (in-area e) (in-walk e) (at-loop2 .loop2 .i) (c .before .before .before .loop2-test .taken) (c .if3 .left))
-          ∙ at-loop2 .loop2 .inv .1,
-    )
+    let e = at-loop2 .before in
+    let p = paths-of e in
+    let l = lengths-of p in
+    let s = ends-of l in
+    let agree = parts-next (area s) (walk s) (k p * entrySize + 1) (end s - n l) (n l) (in-area e) (in-walk e) (at-loop2 .loop2 .i) (c .before .before .before .loop2-test .taken) (c .if3 .left) in
+    (omega arith, sym agree ∙ at-loop2 .loop2 .inv .1)
 
-add-n : tie.Need-add-n Inv-loop2 μ-loop2 Inv-paths μ-paths Inv-loop μ-loop Inv-ends μ-ends
-add-n c = search needs
-
-loop-less : tie.Need-loop-less Inv-loop2 μ-loop2 Inv-paths μ-paths Inv-loop μ-loop Inv-ends μ-ends
-loop-less c = search needs
-
-loop-again :
-    tie.Need-loop-again Inv-loop2 μ-loop2 Inv-paths μ-paths Inv-loop μ-loop Inv-ends μ-ends
+loop-again : tie.Need-loop-again Inv-loop2 μ-loop2 Inv-paths μ-paths Inv-loop μ-loop Inv-ends μ-ends
 loop-again c =
-    let at-paths = c .before in
-    let then1 = at-paths .before in
-    let at-loop = then1 .before .before in
-    let at-ends = at-loop .before .before in
-    let start = at-ends .before .before .before in
-    let a = start .args in
-    let n = at-loop .loop .n in
-    let missed = sym (at-paths .paths .inv .2) ∙ paths-past (now (a .area)) (a .count) (now (a .walk)) (start .pre .0) (start .pre .1) (at-ends .ends .end) (at-loop .loop .n) (at-paths .paths .k) (c .paths-test .left) in (
-      omega arith,
-      omega arith,
-      at-paths .paths .inv .1,
-      sym (first-later (someEnds (spelled (a .count) (now (a .area))) (now (a .walk)) (at-ends .ends .end)) n (omega (arith, then1 .before .loop-test .taken)) missed) ∙ at-loop .loop .inv .3,
-    )
+    let p = c .before in
+    let l = lengths-of p in
+    let s = ends-of l in
+    let missed = sym (p .paths .inv .2) ∙ paths-past (area s) (count s) (walk s) (room s) (fit s) (end s) (n l) (k p) (c .paths-test .left) in
+    let later = first-later (someEnds (known s) (walk s) (end s)) (n l) (omega (arith, p .before .before .loop-test .taken)) missed in
+    (omega arith, omega arith, p .paths .inv .1, sym later ∙ l .loop .inv .3)
 
-add-end : tie.Need-add-end Inv-loop2 μ-loop2 Inv-paths μ-paths Inv-loop μ-loop Inv-ends μ-ends
-add-end c = search needs
-
-ends-less : tie.Need-ends-less Inv-loop2 μ-loop2 Inv-paths μ-paths Inv-loop μ-loop Inv-ends μ-ends
-ends-less c = search needs
-
-ends-again :
-    tie.Need-ends-again Inv-loop2 μ-loop2 Inv-paths μ-paths Inv-loop μ-loop Inv-ends μ-ends
+ends-again : tie.Need-ends-again Inv-loop2 μ-loop2 Inv-paths μ-paths Inv-loop μ-loop Inv-ends μ-ends
 ends-again c =
-    let at-loop = c .before in
-    let at-ends = at-loop .before .before in
-    let start = at-ends .before .before .before in
-    let a = start .args in
-    let n = at-loop .loop .n in
-    let end = at-ends .ends .end in
-    let more : end ≤ length (now (a .walk)) = omega (arith, at-loop .before .ends-test .taken) in
+    let l = c .before in
+    let s = ends-of l in
     let none-named =
-    sym (at-loop .loop .inv .3)
-    ∙ ⊎-elim (λ x. lengths-past (spelled (a .count) (now (a .area))) (now (a .walk)) end n (leb-false _ _ (x .1 .left))) (λ x. lengths-done (spelled (a .count) (now (a .area))) (now (a .walk)) end n (x .left)) (c .loop-test .came) in (
-      omega arith,
-      omega arith,
-      at-loop .loop .inv .2,
-      sym (ends-later (spelled (a .count) (now (a .area))) (now (a .walk)) end more none-named) ∙ at-ends .ends .inv .3,
-    )
+    sym (l .loop .inv .3)
+    ∙ ⊎-elim (λ x. lengths-past (known s) (walk s) (end s) (n l) (leb-false _ _ (x .1 .left))) (λ x. lengths-done (known s) (walk s) (end s) (n l) (x .left)) (c .loop-test .came) in
+    (omega arith, omega (arith, ends l), l .loop .inv .2, sym (ends-later (known s) (walk s) (end s) (ends l) none-named) ∙ s .ends .inv .3)
 
 returns : tie.Need-returns Inv-loop2 μ-loop2 Inv-paths μ-paths Inv-loop μ-loop Inv-ends μ-ends
 returns c =
-    let at-ends = c .before in
-    let start = at-ends .before .before .before in
-    let a = start .args in
-    at-ends .ends .inv .2 ∙ sym (ends-past (spelled (a .count) (now (a .area))) (now (a .walk)) (at-ends .ends .end) (c .ends-test .left)) ∙ at-ends .ends .inv .3
+    let s = c .before in
+    s .ends .inv .2 ∙ sym (ends-past (known s) (walk s) (end s) (c .ends-test .left)) ∙ s .ends .inv .3
 
 returns-2 : tie.Need-returns-2 Inv-loop2 μ-loop2 Inv-paths μ-paths Inv-loop μ-loop Inv-ends μ-ends
 returns-2 c =
     let at-loop2 = c .before in
     let e = at-loop2 .before in
-    let at-paths = e .before .before .before .before in
-    let at-loop = at-paths .before .before .before in
-    let F = spelled (count e) (area e) in
-    let match = sym (at-loop2 .loop2 .inv .1) ∙ parts-past (area e) (walk e) (k e * entrySize + 1) (end e - n e) (n e) (in-area e) (in-walk e) (at-loop2 .loop2 .i) (c .loop2-test .left) in
-    let found = sym (at-paths .paths .inv .2) ∙ stands (area e) (count e) (walk e) (room e) (fit e) (end e) (n e) (k e) (more e) (end e - n e) (length-is e) refl (begins e) (ends e) match in
-    let named = sym (at-loop .loop .inv .3) ∙ first-here (someEnds F (walk e) (end e)) (n e) (omega (arith, at-loop .loop .inv .1, at-paths .before .before .loop-test .taken)) found in
-    sym (ends-here F (walk e) (end e) (ends e) (n e) named) ∙ at-loop .before .before .ends .inv .3
+    let p = paths-of e in
+    let l = lengths-of p in
+    let s = ends-of l in
+    let agree = parts-past (area s) (walk s) (k p * entrySize + 1) (end s - n l) (n l) (in-area e) (in-walk e) (at-loop2 .loop2 .i) (c .loop2-test .left) in
+    let found = stands (area s) (count s) (walk s) (room s) (fit s) (end s) (n l) (k p) (more e) (length-is e) (begins-at (p .before)) (ends l) (sym (at-loop2 .loop2 .inv .1) ∙ agree) in
+    let named = first-here (someEnds (known s) (walk s) (end s)) (n l) (omega (arith, l .loop .inv .1, p .before .before .loop-test .taken)) (sym (p .paths .inv .2) ∙ found) in
+    sym (ends-here (known s) (walk s) (end s) (ends l) (n l) (sym (l .loop .inv .3) ∙ named)) ∙ s .ends .inv .3
 
 pub first-occurrence-spec : {M : Type 1} → statement M
 first-occurrence-spec =
@@ -321,31 +213,31 @@ first-occurrence-spec =
     Inv-ends
     μ-ends
     ends-holds
-    loop-holds
-    sub-place
+    (λ c. (omega arith, omega arith, c .before .ends .inv .2, refl))
+    begins-at
     paths-holds
-    mul-at
-    add-k
-    shared-slice-read-wide
-    wide-requires
-    paths-less
+    (search needs)
+    (search needs)
+    entry-read
+    (search needs)
+    (search needs)
     paths-again
-    loop2-holds
-    add-if3
-    add-if3-2
-    shared-slice-read-if3
-    add-if3-3
-    shared-slice-read-if3-2
-    paths-less-2
+    (λ c. (omega arith, refl))
+    (search needs)
+    (search needs)
+    (λ c. omega (arith, in-area (c .before .before .before), c .before .loop2-test .taken))
+    (search needs)
+    (λ c. omega (arith, in-walk (c .before .before .before .before), c .before .before .loop2-test .taken))
+    (search needs)
     paths-again-2
-    add-i
-    loop2-less
+    (search needs)
+    (search needs)
     loop2-again
-    add-n
-    loop-less
+    (search needs)
+    (search needs)
     loop-again
-    add-end
-    ends-less
+    (search needs)
+    (search needs)
     ends-again
     returns
     returns-2)
