@@ -40,10 +40,10 @@ spells-cons r filling area count F nine s = record { room = omega (arith, s .roo
     entry : List ℕ
     entry = length r ∷ r ++ filling
 
-    nine-bytes : length entry ≡ 9
+    nine-bytes : length entry ≡ entrySize
     nine-bytes = omega (arith, length-append r filling, nine)
 
-    later : (x y : ℕ) → x ≡ 9 + y → getD (entry ++ area) x 0 ≡ getD area y 0
+    later : (x y : ℕ) → x ≡ entrySize + y → getD (entry ++ area) x 0 ≡ getD area y 0
     later x y e = ap (λ (z : ℕ). getD (entry ++ area) z 0) (let at : x ≡ length entry + y = omega (arith, e, nine-bytes) in at) ∙ getD-append-add entry area y 0
 
     size : (j : ℕ) → j < suc count → getD (entry ++ area) (j * entrySize) 0 ≡ length (getD (r ∷ F) j [])

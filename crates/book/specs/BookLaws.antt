@@ -11,7 +11,7 @@ use borrow.Author.Tests.{ltb-true, leb-true, le-leb, eqb-true, eqb-false, eq-eqb
 use lib.Dec.{eqb, leb, ltb}
 use lib.ListN.{length, length-append}
 use lib.Seq.{length-slice}
-use Rattle.limits.specs.Limits.{longestPath, mostPaths, mostVertices}
+use Rattle.limits.specs.Limits.{longestPath, mostPaths, mostSets, mostVertices}
 use Rattle.book.specs.declared.Refusal.{Refusal}
 use Rattle.book.specs.declared.Answer.the-variants.{Read, Refused}
 use Rattle.book.specs.declared.Counts.{Counts}
@@ -223,7 +223,7 @@ arc-well-formed a b w value once =
       paths-proper = w .paths-proper;
     }
 
-set-well-formed : (f : ℕ) (b : Book) → WellFormed b → 1 ≤ b .count → length (b .sets) < 16
+set-well-formed : (f : ℕ) (b : Book) → WellFormed b → 1 ≤ b .count → length (b .sets) < mostSets
     → WellFormed (record { count = b .count; arcs = b .arcs; sets = b .sets ++ bare f })
 set-well-formed f b w low space =
     record {

@@ -20,7 +20,7 @@ length-owners k (s ∷ ss) = simp (length-append, length-replicate, length-owner
 abbrev pub Short : List ℕ → Type 0
 Short p = length p ≤ longestPath
 
-pub length-entry : (p : List ℕ) → Short p → length (entry p) ≡ 9
+pub length-entry : (p : List ℕ) → Short p → length (entry p) ≡ entrySize
 length-entry p h = simp (length-append, length-replicate) (omega arith)
 
 -- What is proved of no entries, and of entries after one more, whatever stands after them, is proved of all.

@@ -8,7 +8,7 @@ use native.Mathlib.Omega.{arith}
 use borrow.Author.Tests.{ltb-true, ltb-false, leb-true, eqb-true, eq-eqb}
 use lib.Dec.{eqb, leb, ltb}
 use lib.ListN.{length, length-append, length-map}
-use Rattle.limits.specs.Limits.{longestPath}
+use Rattle.limits.specs.Limits.{longestPath, mostVertices}
 use Rattle.lists.specs.Distinct.{Distinct}
 use Rattle.lists.specs.Test.{and-true, or-false}
 use Rattle.lists.specs.Pigeonhole.{pigeonhole}
@@ -25,7 +25,7 @@ use Rattle.book.specs.Reading.{lengthAt, endAt, countAt, arcAt, flagsAt, pathAt
 code : ℕ → ℕ → ℕ
 code u v = u * 63 + cond (ltb v u) v (v - 1)
 
-code-below : (u v : ℕ) → u < 64 → v < 64 → u ≢ v → code u v < 4032
+code-below : (u v : ℕ) → u < mostVertices → v < mostVertices → u ≢ v → code u v < 4032
 unfolding code
 code-below u v h l d = go (ltb v u) refl
   where
@@ -33,7 +33,7 @@ code-below u v h l d = go (ltb v u) refl
     go true e = omega (arith, ltb-true v u e)
     go false e = omega (arith, ltb-false v u e, d)
 
-code-same : (u v x y : ℕ) → u < 64 → v < 64 → u ≢ v → x < 64 → y < 64 → x ≢ y → code u v ≡ code x y → (u ≡ x) × (v ≡ y)
+code-same : (u v x y : ℕ) → u < mostVertices → v < mostVertices → u ≢ v → x < mostVertices → y < mostVertices → x ≢ y → code u v ≡ code x y → (u ≡ x) × (v ≡ y)
 unfolding code
 code-same u v x y hu hv d hx hy f e = go (ltb v u) (ltb y x) refl refl e
   where
@@ -46,7 +46,7 @@ code-same u v x y hu hv d hx hy f e = go (ltb v u) (ltb y x) refl refl e
 abbrev codes : List Arc → List ℕ
 codes arcs = map (λ a. code (a .tail) (a .head)) arcs
 
-module _ (n : ℕ) (few : n ≤ 64) where
+module _ (n : ℕ) (few : n ≤ mostVertices) where
   codes-below : (arcs : List Arc) → All (IsArc n) arcs → (x : ℕ) → List·Memᴰ x (codes arcs) → x < 4032
   codes-below [] p x m = absurd (List·Memᴰ·not-nil m)
   codes-below (a ∷ arcs) p x m =

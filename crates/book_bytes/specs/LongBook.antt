@@ -9,7 +9,7 @@ use borrow.Author.Tests.{le-leb, lt-ltb, ltb-false, leb-true, eqb-true}
 use lib.Dec.{leb, ltb}
 use lib.ListN.{length, getD, take, drop}
 use lib.Seq.{getD-take, take-take, length-take-le}
-use Rattle.limits.specs.Limits.{longestPath, mostPaths}
+use Rattle.limits.specs.Limits.{longestPath, mostPaths, mostSets, mostVertices}
 use Rattle.lists.specs.Test.{and-true}
 use Rattle.walks.specs.Graph.{Arc}
 use Rattle.book.specs.declared.Kind.{Kind}
@@ -24,7 +24,7 @@ use Rattle.book_bytes.specs.Bytes.{longestBook}
 use Rattle.book_bytes.specs.BookSize.{Sized, size-bound, next-sized}
 
 -- ---- a field looks at no byte behind its own
--- the verdict of the four tests of the frame, and of the rest
+-- what the four tests of the frame and the rest come to
 abbrev shape : Bool → Bool → Bool → Bool → Option Refusal → Book → ℕ → Reading
 shape x y z w rest e at = outcome (cond x (cond y (cond z (cond w rest (some (Truncated at))) (some (Length at))) (some (Tag at))) (some (Truncated at))) e
 
@@ -37,9 +37,9 @@ shape-same true true true w w′ rest rest′ e e′ at h =
     let (p, p′, q) = h refl in
     ap (λ v. shape true true true v rest e at) p ∙ q ∙ sym (ap (λ v. shape true true true v rest′ e′ at) p′)
 
--- the verdict of the tests of the value
-abbrev judged : Bool → Bool → Bool → Book → ℕ → Reading
-judged value once space e at =
+-- what the tests of the value come to: the book e where they hold
+abbrev takenIf : Bool → Bool → Bool → Book → ℕ → Reading
+takenIf value once space e at =
     outcome
     (firstFailure (record { holds = value; refusal = Value at } ∷ record { holds = once; refusal = Repeated at } ∷ record { holds = space; refusal = TooMany at } ∷ []))
     e
@@ -83,20 +83,20 @@ module _ (s : List ℕ) (m : ℕ) (b : Book) (at : ℕ) (within : at + 11 ≤ m)
 
   taken-same : (k : Kind) → lengthAt s at ≤ longestPath → taken k front b at ≡ taken k s b at
   taken-same VertexCount h =
-      ap (λ c. judged (leb 1 c && leb c 64) true true (record { count = c; arcs = b .arcs; sets = b .sets }) at) (byte (at + 3) (omega arith))
+      ap (λ c. takenIf (leb 1 c && leb c mostVertices) true true (record { count = c; arcs = b .arcs; sets = b .sets }) at) (byte (at + 3) (omega arith))
   taken-same Kind.Arc h =
       ap
-      (λ (a : Arc). judged (properArc (b .count) a) (not (given (b .arcs) (a .tail) (a .head))) true
+      (λ (a : Arc). takenIf (properArc (b .count) a) (not (given (b .arcs) (a .tail) (a .head))) true
       (record { count = b .count; arcs = b .arcs ++ (a ∷ []); sets = b .sets }) at)
       arc-same
   taken-same Kind.RuleSet h =
       ap
-      (λ f. judged true true (ltb (length (b .sets)) 16)
+      (λ f. takenIf true true (ltb (length (b .sets)) mostSets)
       (record { count = b .count; arcs = b .arcs; sets = b .sets ++ (record { flags = f; paths = [] } ∷ []) }) at)
       flags-same
   taken-same Path h =
       ap
-      (λ p. judged (simple (b .count) p) true (ltb (length (allPaths (b .sets))) mostPaths)
+      (λ p. takenIf (simple (b .count) p) true (ltb (length (allPaths (b .sets))) mostPaths)
       (record { count = b .count; arcs = b .arcs; sets = addPath (b .sets) p }) at)
       (path-same h)
   taken-same Unknown h = refl

@@ -18,7 +18,7 @@ use Rattle.distances.specs.Settle.{Lowered}
 
 module _ (tails heads costs t₀ : List ℕ) (h : ℕ) where
   pub record Lowering (i : ℕ) (t : List ℕ) : Type 0 where
-    pub bound : i ≤ length heads
+    pub within : i ≤ length heads
     pub cursor : (j : ℕ) → i ≡ suc j → at heads j ≡ h
     pub same-length : length t ≡ length t₀
     pub not-raised : (q : ℕ) → at t q ≤ at t₀ q
@@ -27,7 +27,7 @@ module _ (tails heads costs t₀ : List ℕ) (h : ℕ) where
 
   pub lowering-none : Lowering (last heads h (length heads)) t₀
   lowering-none = record {
-    bound = last-le heads h (length heads);
+    within = last-le heads h (length heads);
     cursor = λ j e. last-head heads h (length heads) j e;
     same-length = refl;
     not-raised = λ q. omega arith;
@@ -45,7 +45,7 @@ module _ (tails heads costs t₀ : List ℕ) (h : ℕ) where
 
   lowering-next : Ready tails heads costs t₀ → (j : ℕ) {t : List ℕ} → Lowering (suc j) t → Lowering (last heads (at heads j) j) (relax t₀ (edge-at tails heads costs j) t)
   lowering-next r j {t} l = record {
-    bound = omega (arith, last-le heads (at heads j) j, l .bound);
+    within = omega (arith, last-le heads (at heads j) j, l .within);
     cursor = λ k e. last-head heads (at heads j) j k e ∙ here;
     same-length = length-set t (at tails j) _ ∙ l .same-length;
     not-raised = λ q. omega (arith, relax-le t₀ edge t q, l .not-raised q);
@@ -60,7 +60,7 @@ module _ (tails heads costs t₀ : List ℕ) (h : ℕ) where
       here = l .cursor j refl
 
       mem : edge ∈ edges tails heads costs
-      mem = edge-at-mem tails heads costs j (omega (arith, l .bound, r .heads-length)) (omega (arith, l .bound)) (omega (arith, l .bound, r .heads-length, r .costs-length))
+      mem = edge-at-mem tails heads costs j (omega (arith, l .within, r .heads-length)) (omega (arith, l .within)) (omega (arith, l .within, r .heads-length, r .costs-length))
 
       relaxed : (k : ℕ) → last heads (at heads j) j ≤ k → k < length heads → at heads k ≡ h → at (relax t₀ edge t) (at tails k) ≤ at t₀ h + at costs k
       relaxed k low less e =

@@ -23,7 +23,7 @@ use Rattle.states.specs.Chosen.{chosen}
 use Rattle.examples.specs.Walks.{marks-3, named-123, named-13}
 use Rattle.rules.specs.Binding.{covers, applied, known, once}
 use Rattle.limits.specs.Limits.{areaSize, longest}
-use Rattle.rules.specs.Operations.{Binding, outcome, bindTests, bindingOf, binding, areaAfter}
+use Rattle.rules.specs.Operations.{Binding, boundUnless, bindTests, bindingOf, binding, areaAfter}
 use Rattle.planner.specs.declared.Outcome.{Outcome}
 use Rattle.planner.specs.declared.Outcome.the-variants.{Walk, Nothing}
 use Rattle.planner.specs.Planning.{Planning}
@@ -137,7 +137,7 @@ pub record Sums : Type 0 where
 binds : (s : List ℕ) (b : Book) → reading s ≡ accepted b → (flags : ℕ) (paths : List ℕ) → areaSize ≤ length paths
     → binding s flags paths ≡ Binding.bound (known flags (b .sets))
 binds s b read flags paths fits =
-    ap (λ x. bindingOf x flags paths) read ∙ ap (λ o. outcome o (known flags (b .sets))) (hold→none (bindTests paths b) (le-leb areaSize (length paths) fits, tt))
+    ap (λ x. bindingOf x flags paths) read ∙ ap (λ o. boundUnless o (known flags (b .sets))) (hold→none (bindTests paths b) (le-leb areaSize (length paths) fits, tt))
 
 plans : (s : List ℕ) (b : Book) → reading s ≡ accepted b → (flags start end : ℕ) (r : Outcome) (w : List ℕ) → Gives s flags start end r w → Plans s flags start end r w
 plans s b read flags start end r w gives paths walk fits long =

@@ -1,6 +1,7 @@
 // The case of a book: what it means, or its refusal.
 ghost use Prim.Native.Nat.{_<_};
 ghost use mathlib.Core.Path.{_≡_};
+ghost use Rattle.limits.specs.Limits.{mostPaths};
 use book::Answer;
 use book::Counts;
 use cases::number;
@@ -55,7 +56,7 @@ fn write_arcs(weights: &[u32; PAIRS]) {
 }
 
 fn write_path(entries: &[u8; AREA], j: usize)
-    requires { ⌜ j < 256 ⌝ }
+    requires { ⌜ j < mostPaths ⌝ }
 {
     text(b"RUN");
     let n = wide(entries[j * ENTRY]);

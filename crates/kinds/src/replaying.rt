@@ -98,7 +98,7 @@ fn make_all(
         let Made::Report(reported, next) = made else {
             return rec;
         };
-        answer(reported, walk);
+        print_reported(reported, walk);
         rec = series::record_of(reported);
         at = next;
     }
@@ -106,7 +106,7 @@ fn make_all(
 }
 
 // Prints what a report leaves.
-fn answer(reported: Reported, walk: &[u8]) {
+fn print_reported(reported: Reported, walk: &[u8]) {
     match reported {
         Reported::Accepted(rec) => print(rec, walk),
         Reported::Refused(r, _) => refusal(r),

@@ -25,7 +25,7 @@ open-test weights steps blockeds latests q v left e = ap (λ x. not (eqb (arcAt 
 module _ (weights steps blockeds latests : List ℕ) (q filled : ℕ) (tails₀ heads₀ costs₀ : List ℕ) where
   pub record Filling (tails heads costs : List ℕ) (left k v : ℕ) : Type 0 where
     pub left-is : left ≡ getD blockeds q 0 / 2 ^ v
-    pub bound : k ≤ filled + v
+    pub few : k ≤ filled + v
     pub tails-length : length tails ≡ length tails₀
     pub heads-length : length heads ≡ length heads₀
     pub costs-length : length costs ≡ length costs₀
@@ -35,7 +35,7 @@ module _ (weights steps blockeds latests : List ℕ) (q filled : ℕ) (tails₀ 
   unfolding edgesFrom
   filling-none = record {
     left-is = sym (div-one (getD blockeds q 0));
-    bound = omega arith;
+    few = omega arith;
     tails-length = refl;
     heads-length = refl;
     costs-length = refl;
@@ -48,7 +48,7 @@ module _ (weights steps blockeds latests : List ℕ) (q filled : ℕ) (tails₀ 
     unfolding edgesFrom
     filling-open o a b c = record {
       left-is = ap (λ x. x / 2) (f .left-is) ∙ next-half (getD blockeds q 0) v;
-      bound = omega (arith, f .bound);
+      few = omega (arith, f .few);
       tails-length = length-set tails k q ∙ f .tails-length;
       heads-length = length-set heads k _ ∙ f .heads-length;
       costs-length = length-set costs k _ ∙ f .costs-length;
@@ -59,7 +59,7 @@ module _ (weights steps blockeds latests : List ℕ) (q filled : ℕ) (tails₀ 
     unfolding edgesFrom
     filling-shut o = record {
       left-is = ap (λ x. x / 2) (f .left-is) ∙ next-half (getD blockeds q 0) v;
-      bound = omega (arith, f .bound);
+      few = omega (arith, f .few);
       tails-length = f .tails-length;
       heads-length = f .heads-length;
       costs-length = f .costs-length;

@@ -28,7 +28,7 @@ pub length-spelled : (k : ℕ) (area : List ℕ) → length (spelled k area) ≡
 length-spelled k area = length-map (blocks k area) pathOf ∙ length-blocks k area
 
 -- the first k entries are by the rules, with no path twice, and a blank area has their paths
-pub record Judged (v : ℕ) (area : List ℕ) (count : ℕ) (clean : List ℕ) (k : ℕ) : Type 0 where
+pub record ValidTo (v : ℕ) (area : List ℕ) (count : ℕ) (clean : List ℕ) (k : ℕ) : Type 0 where
   pub within : k ≤ count
   pub left : all (isEntry v) (blocks (count - k) (drop (k * 9) area)) ≡ all (isEntry v) (blocks count area)
   pub short : All Short (spelled k area)
@@ -52,11 +52,11 @@ pub too-many : (v : ℕ) (area : List ℕ) (count : ℕ) → 256 < count → val
 too-many v area count h = rw (lt-leb _ _ h)
 
 module _ (v : ℕ) (area : List ℕ) (count : ℕ) (few : count ≤ 256) (long : areaSize ≤ length area) where
-  pub started : (clean : List ℕ) → clean ≡ replicate areaSize 0 → Judged v area count clean 0
+  pub started : (clean : List ℕ) → clean ≡ replicate areaSize 0 → ValidTo v area count clean 0
   unfolding blocks entries once
   started clean e = record { within = omega arith; left = ap (all (isEntry v)) (blocks-start count area); short = tt; different = refl; entered = e }
 
-  module _ (clean : List ℕ) (k : ℕ) (j : Judged v area count clean k) where
+  module _ (clean : List ℕ) (k : ℕ) (j : ValidTo v area count clean k) where
     pub clean-length : length clean ≡ areaSize
     clean-length = ap length (j .entered) ∙ length-written (spelled k area) (j .short) (omega (arith, length-spelled k area, j .within))
 
@@ -135,8 +135,8 @@ module _ (v : ℕ) (area : List ℕ) (count : ℕ) (few : count ≤ 256) (long :
               third-fails (leb count 256) (all (isEntry v) (blocks count area)) _ _
               (refuted (once (spelled count area)) (λ t. true≢false (sym (once-front (spelled (k + 1) area) later (sym (ap once all-of) ∙ t)) ∙ different-next true e)))
 
-          pub judged-next : member (take 9 (drop (k * 9) after)) (blocks k after) ≡ false → Judged v area count after (k + 1)
-          judged-next e =
+          pub valid-next : member (take 9 (drop (k * 9) after)) (blocks k after) ≡ false → ValidTo v area count after (k + 1)
+          valid-next e =
               record {
                 within = omega arith;
                 left = sym (all-later (isEntry v) count k area more taken) ∙ j .left;

@@ -53,7 +53,7 @@ path-of-entry p = take-append-seam p _
 pub entry-at : (F : List (List ℕ)) (rest : List ℕ) (k : ℕ) → All Short F → k < length F → take entrySize (drop (k * entrySize) (entries F ++ rest)) ≡ entry (getD F k [])
 unfolding entries
 entry-at [] rest k h l = absurd (omega arith)
-entry-at (p ∷ F) rest zero h l = ap (take entrySize) (append-assoc (entry p) (entries F) rest) ∙ take-at (entry p) _ 9 (length-entry p (h .0))
+entry-at (p ∷ F) rest zero h l = ap (take entrySize) (append-assoc (entry p) (entries F) rest) ∙ take-at (entry p) _ entrySize (length-entry p (h .0))
 entry-at (p ∷ F) rest (suc k) h l =
     let further : suc k * entrySize ≡ length (entry p) + k * entrySize = omega (arith, length-entry p (h .0)) in
     ap₂ (λ n t. take entrySize (drop n t)) further (append-assoc (entry p) (entries F) rest)
@@ -69,7 +69,7 @@ member-entry p (q ∷ F) =
 -- ---- the entry at a byte, and the path that it spells
 module _ (area : List ℕ) (at : ℕ) where
   pub length-byte : getD (take entrySize (drop at area)) 0 0 ≡ getD area at 0
-  length-byte = part-at area at 9 0 (omega arith) ∙ ap (λ i. getD area i 0) (add-zero at)
+  length-byte = part-at area at entrySize 0 (omega arith) ∙ ap (λ i. getD area i 0) (add-zero at)
 
   vertices-of : (l : List ℕ) → drop 1 (take entrySize l) ≡ take longestPath (drop 1 l)
   vertices-of [] = refl
@@ -95,16 +95,16 @@ unfolding blocks
 blocks-append zero m t = ap (λ k. blocks k t) (zero-add m)
 blocks-append (suc n) m t =
     let turn : suc n + m ≡ suc (n + m) = omega arith in
-    let further : 9 + n * entrySize ≡ suc n * entrySize = omega arith in
+    let further : entrySize + n * entrySize ≡ suc n * entrySize = omega arith in
     ap (λ k. blocks k t) turn
-    ∙ ap (λ l. take entrySize t ∷ l) (blocks-append n m (drop entrySize t) ∙ ap (λ s. blocks n (drop entrySize t) ++ blocks m s) (drop-drop (n * entrySize) 9 t ∙ ap (λ k. drop k t) further))
+    ∙ ap (λ l. take entrySize t ∷ l) (blocks-append n m (drop entrySize t) ∙ ap (λ s. blocks n (drop entrySize t) ++ blocks m s) (drop-drop (n * entrySize) entrySize t ∙ ap (λ k. drop k t) further))
 
 -- the entry at k is the first of those from k on, and the last of those up to it
 pub blocks-from : (n k : ℕ) (t : List ℕ) → k < n → blocks (n - k) (drop (k * entrySize) t) ≡ take entrySize (drop (k * entrySize) t) ∷ blocks (n - (k + 1)) (drop ((k + 1) * entrySize) t)
 unfolding blocks
 blocks-from n k t h =
     let turn : n - k ≡ suc (n - (k + 1)) = omega arith in
-    let further : k * entrySize + 9 ≡ (k + 1) * entrySize = omega arith in
+    let further : k * entrySize + entrySize ≡ (k + 1) * entrySize = omega arith in
     ap (λ m. blocks m (drop (k * entrySize) t)) turn ∙ ap (λ s. take entrySize (drop (k * entrySize) t) ∷ blocks (n - (k + 1)) s) (drop-drop entrySize (k * entrySize) t ∙ ap (λ m. drop m t) further)
 
 pub blocks-up-to : (k : ℕ) (t : List ℕ) → blocks (k + 1) t ≡ blocks k t ++ (take entrySize (drop (k * entrySize) t) ∷ [])
@@ -121,7 +121,7 @@ blocks-entries [] rest h = refl
 blocks-entries (p ∷ F) rest h =
     let nine = length-entry p (h .0) in
     ap (λ t. take entrySize t ∷ blocks (length F) (drop entrySize t)) (append-assoc (entry p) (entries F) rest)
-    ∙ ap₂ (λ e t. e ∷ blocks (length F) t) (take-at (entry p) _ 9 nine) (drop-at (entry p) (entries F ++ rest) 9 nine)
+    ∙ ap₂ (λ e t. e ∷ blocks (length F) t) (take-at (entry p) _ entrySize nine) (drop-at (entry p) (entries F ++ rest) entrySize nine)
     ∙ ap (λ l. entry p ∷ l) (blocks-entries F rest (h .1))
 
 pub spelled-entries : (F : List (List ℕ)) (rest : List ℕ) → All Short F → spelled (length F) (entries F ++ rest) ≡ F

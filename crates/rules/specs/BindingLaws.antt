@@ -5,6 +5,7 @@ use mathlib.Core.List.{List, [], _∷_}
 use mathlib.Core.Path.{_≡_, refl}
 use native.Mathlib.Omega.{arith}
 use lib.ListN.{length, length-append}
+use Rattle.limits.specs.Limits.{mostPaths}
 use Rattle.book.specs.Book.{RuleSet, Book, All, IsPath, WellFormed, allPaths}
 use Rattle.book.specs.BookLaws.{all-map, all-append, all-left, all-right}
 use Rattle.rules.specs.Binding.{applies, applied, known, once}
@@ -35,7 +36,7 @@ bound-length flags (s ∷ ss) = simp length-append (omega (arith, own (applies f
 
 -- The known paths of a book are at most 256 different paths by its rules.
 module _ (flags : ℕ) (b : Book) (w : WellFormed b) where
-  pub known-few : length (known flags (b .sets)) ≤ 256
+  pub known-few : length (known flags (b .sets)) ≤ mostPaths
   known-few = omega (arith, distinct-length (applied flags (b .sets)) [], bound-length flags (b .sets), w .few-paths)
 
   pub known-paths : All (IsPath (b .count)) (known flags (b .sets))

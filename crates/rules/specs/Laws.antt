@@ -15,8 +15,8 @@ use Rattle.book.specs.BookLaws.{reading-is-book}
 use Rattle.book.specs.Reading.{Reading, reading}
 use Rattle.rules.specs.Binding.{applies, applied, known, once}
 use Rattle.rules.specs.Area.{written, spelled, valid}
-use Rattle.limits.specs.Limits.{areaSize}
-use Rattle.rules.specs.Operations.{Binding, outcome, bindTests, bindingOf, binding, areaAfter}
+use Rattle.limits.specs.Limits.{areaSize, mostPaths}
+use Rattle.rules.specs.Operations.{Binding, boundUnless, bindTests, bindingOf, binding, areaAfter}
 use Rattle.rules.specs.Sets.{listed→distinct, distinct→listed}
 use Rattle.rules.specs.BindingLaws.{known-few, known-paths, known-once}
 use Rattle.rules.specs.ValidLaws.{written-length, written-valid, written-spells}
@@ -98,16 +98,16 @@ pub record Filled (s : List ℕ) (flags : ℕ) (area : List ℕ) (F : List (List
   pub book : Book
   pub read : reading s ≡ Reading.accepted book
   pub paths : F ≡ known flags (book .sets)
-  pub few : length F ≤ 256
+  pub few : length F ≤ mostPaths
   pub proper : All (IsPath (book .count)) F
   pub different : once F ≡ true
   pub long : areaSize ≤ length (areaAfter (binding s flags area) area)
   pub validity : valid (book .count) (areaAfter (binding s flags area) area) (length F) ≡ true
   pub spells : spelled (length F) (areaAfter (binding s flags area) area) ≡ F
 
-outcome-bound : (o : Option Refusal) (G F : List (List ℕ)) → outcome o G ≡ Binding.bound F → G ≡ F
-outcome-bound none G F e = cc
-outcome-bound (some q) G F e = absurd (let z : _≡_ {A = ℕ} 0 1 = cc in omega arith)
+unless-bound : (o : Option Refusal) (G F : List (List ℕ)) → boundUnless o G ≡ Binding.bound F → G ≡ F
+unless-bound none G F e = cc
+unless-bound (some q) G F e = absurd (let z : _≡_ {A = ℕ} 0 1 = cc in omega arith)
 
 module _ (s : List ℕ) (flags : ℕ) (area : List ℕ) where
   pub bind-accepted : (F : List (List ℕ)) → binding s flags area ≡ Binding.bound F → Filled s flags area F
@@ -118,8 +118,8 @@ module _ (s : List ℕ) (flags : ℕ) (area : List ℕ) where
       go (Reading.accepted b) read e =
           let well = reading-is-book s b read .well-formed in
           let after : areaAfter (binding s flags area) area ≡ written F ++ drop areaSize area = ap (λ x. areaAfter x area) is in
-          let F-is : known flags (b .sets) ≡ F = outcome-bound (refusalBy (bindTests area b)) (known flags (b .sets)) F e in
-          let few : length F ≤ 256 = subst (λ G. length G ≤ 256) F-is (known-few flags b well) in
+          let F-is : known flags (b .sets) ≡ F = unless-bound (refusalBy (bindTests area b)) (known flags (b .sets)) F e in
+          let few : length F ≤ mostPaths = subst (λ G. length G ≤ mostPaths) F-is (known-few flags b well) in
           let proper : All (IsPath (b .count)) F = subst (All (IsPath (b .count))) F-is (known-paths flags b well) in
           let different : once F ≡ true = ap once (sym F-is) ∙ known-once flags b well in
           let full = written-length (b .count) F few proper different (drop areaSize area) in

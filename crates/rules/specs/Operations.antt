@@ -18,15 +18,15 @@ pub data Binding : Type 0 where
   bound : List (List ℕ) → Binding
   refused : Refusal → Binding
 
-abbrev pub outcome : Option Refusal → List (List ℕ) → Binding
-outcome none F = bound F
-outcome (some r) F = refused r
+abbrev pub boundUnless : Option Refusal → List (List ℕ) → Binding
+boundUnless none F = bound F
+boundUnless (some r) F = refused r
 
 abbrev pub bindTests : List ℕ → Book → List Test
 bindTests area b = test 8 (leb areaSize (length area)) ∷ []
 
 abbrev pub bindingOf : Reading → ℕ → List ℕ → Binding
-bindingOf r flags area = outcome (refusalOf r (bindTests area)) (known flags (bookIn r .sets))
+bindingOf r flags area = boundUnless (refusalOf r (bindTests area)) (known flags (bookIn r .sets))
 
 abbrev pub binding : List ℕ → ℕ → List ℕ → Binding
 binding s flags area = bindingOf (reading s) flags area

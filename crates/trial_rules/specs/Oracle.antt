@@ -135,8 +135,8 @@ module _ (b : Begin) (R : List (List ℕ)) (set : OracleSet b R) where
           lt→ltb (σ .rec .known) mostPaths (omega (arith, rw length-append at all-fit, rw length-append at (set .few), c .valid .known)),
         )
 
-    outcome : OracleOutcome b R done σ
-    outcome =
+    sound-outcome : OracleOutcome b R done σ
+    sound-outcome =
         let c = h .rules in
         let v = c .valid in
         let a = begin-accepted b in
@@ -176,5 +176,5 @@ module _ (b : Begin) (R : List (List ℕ)) (set : OracleSet b R) where
 -- is true to R.
 pub oracle : (b : Begin) (R : List (List ℕ)) → OracleSet b R → (ρs : List Report) → TrueOracle b R ρs → OracleOutcome b R (acceptedOf b ρs) (stateAfter b ρs)
 oracle b R set ρs true-to-R =
-    outcome b R set (acceptedOf b ρs) (stateAfter b ρs)
+    sound-outcome b R set (acceptedOf b ρs) (stateAfter b ρs)
     (kept (b .graph) (b .plan) (Sound b R set) (TrueTo R) (sound-step b R set) ρs [] (begun b) true-to-R (sound-begin b R set))

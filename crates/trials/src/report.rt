@@ -8,7 +8,7 @@ ghost use Rattle.book.specs.Book.{Book};
 ghost use Rattle.book.specs.Reading.{accepted};
 ghost use Rattle.book.specs.Refusal.{refusalBy};
 ghost use Rattle.book.specs.Tables.{IsGraph};
-ghost use Rattle.limits.specs.Limits.{entrySize};
+ghost use Rattle.limits.specs.Limits.{entrySize, longestPath};
 ghost use Rattle.trials.specs.declared.Reported.the-variants.{Accepted};
 ghost use Rattle.trial_rules.specs.Trials.{passed, failed};
 ghost use Rattle.trials.specs.Operations.{answering, reportingOf, reporting};
@@ -135,7 +135,7 @@ fn replan(
 
 // Enters a path into an area behind `known` others.
 fn enter(path: &[u8], known: usize, paths: &mut [u8])
-    requires { ⌜ length (now path) ≤ 8 ⌝ }
+    requires { ⌜ length (now path) ≤ longestPath ⌝ }
     requires { ⌜ known * entrySize + entrySize ≤ length (now paths) ⌝ }
     ensures { λ _. ⌜ now (paths .exit) ≡ paste (set (now (paths .entry)) (known * entrySize) (length (now (path .entry)))) (known * entrySize + 1) (now (path .entry)) (length (now (path .entry))) ⌝ }
 {

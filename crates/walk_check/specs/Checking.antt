@@ -54,16 +54,16 @@ abbrev pub checkable : Graph → List ℕ → Bool
 checkable g w = leb (length w) longest && isWalk g w
 
 -- The operation: what it is refused for, and what it answers.
-abbrev pub verdict : Option Refusal → Checked → Checked
-verdict none c = c
-verdict (some r) c = Checked.Refused r
+abbrev pub checkedUnless : Option Refusal → Checked → Checked
+checkedUnless none c = c
+checkedUnless (some r) c = Checked.Refused r
 
 abbrev pub checkTests : List ℕ → ℕ → List ℕ → Book → List Test
 checkTests area count w b =
     test 8 (leb areaSize (length area)) ∷ test 9 (valid (b .count) area count) ∷ test 10 (checkable (graph b) w) ∷ []
 
 abbrev pub checkingOf : Reading → List ℕ → ℕ → List ℕ → Checked
-checkingOf r area count w = verdict (refusalOf r (checkTests area count w)) (occurrence (spelled count area) w)
+checkingOf r area count w = checkedUnless (refusalOf r (checkTests area count w)) (occurrence (spelled count area) w)
 
 abbrev pub checking : List ℕ → List ℕ → ℕ → List ℕ → Checked
 checking s area count w = checkingOf (reading s) area count w

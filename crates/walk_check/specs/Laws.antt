@@ -17,7 +17,7 @@ use Rattle.book.specs.Reading.{Reading, reading, refusalOf}
 use Rattle.walk_check.specs.declared.Checked.the-variants.{Clear}
 use Rattle.rules.specs.Area.{spelled, valid}
 use Rattle.limits.specs.Limits.{areaSize, longestPath}
-use Rattle.walk_check.specs.Checking.{checkable, occurrence, verdict, checkTests, checkingOf, checking}
+use Rattle.walk_check.specs.Checking.{checkable, occurrence, checkedUnless, checkTests, checkingOf, checking}
 use Rattle.rules.specs.Operations.{binding, areaAfter}
 use Rattle.rules.specs.Laws.{Filled}
 use Rattle.rules.specs.ValidLaws.{valid→Valid}
@@ -37,7 +37,7 @@ module _ (s area : List ℕ) (count : ℕ) (w : List ℕ) where
   pub clear-avoids : checking s area count w ≡ Clear → Avoids (spelled count area) w
   clear-avoids e = go (reading s) e
     where
-      by-tests : (b : Book) (o : Option Refusal) → refusalBy (checkTests area count w b) ≡ o → verdict o (occurrence (spelled count area) w) ≡ Clear → Avoids (spelled count area) w
+      by-tests : (b : Book) (o : Option Refusal) → refusalBy (checkTests area count w b) ≡ o → checkedUnless o (occurrence (spelled count area) w) ≡ Clear → Avoids (spelled count area) w
       by-tests b (some q) is h = absurd (let z : _≡_ {A = ℕ} 0 1 = cc in omega arith)
       by-tests b none is h =
           let ok = none→hold (checkTests area count w b) is .1 .0 in
@@ -49,14 +49,14 @@ module _ (s area : List ℕ) (count : ℕ) (w : List ℕ) where
 
   -- ... and one that avoids them is found clear, where nothing is refused.
   pub avoids-clear : checkRefusal ≡ none → Avoids (spelled count area) w → checking s area count w ≡ Clear
-  avoids-clear e h = ap (λ o. verdict o (occurrence (spelled count area) w)) e ∙ Avoids→clear (spelled count area) w h
+  avoids-clear e h = ap (λ o. checkedUnless o (occurrence (spelled count area) w)) e ∙ Avoids→clear (spelled count area) w h
 
 -- With the area and the count of an accepted bind only 10 is refused, and the check is that of the known paths.
 pub bind-then-check : (s : List ℕ) (flags : ℕ) (area : List ℕ) (F : List (List ℕ)) (f : Filled s flags area F) (w : List ℕ)
-    → checking s (areaAfter (binding s flags area) area) (length F) w ≡ verdict (refusalBy (test 10 (checkable (graph (f .book)) w) ∷ [])) (occurrence F w)
+    → checking s (areaAfter (binding s flags area) area) (length F) w ≡ checkedUnless (refusalBy (test 10 (checkable (graph (f .book)) w) ∷ [])) (occurrence F w)
 bind-then-check s flags area F f w =
     let after = areaAfter (binding s flags area) area in
     let held : List Test = test 8 (leb areaSize (length after)) ∷ test 9 (valid (f .book .count) after (length F)) ∷ [] in
     ap (λ r. checkingOf r after (length F) w) (f .read)
-    ∙ ap₂ (λ o G. verdict o (occurrence G w))
+    ∙ ap₂ (λ o G. checkedUnless o (occurrence G w))
     (first-of-append held (test 10 (checkable (graph (f .book)) w) ∷ []) (hold→none held (le-leb areaSize (length after) (f .long), (f .validity, tt)))) (f .spells)

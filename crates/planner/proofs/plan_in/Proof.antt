@@ -42,10 +42,10 @@ returns-4 c b g =
 valid-requires : tie.Need-valid-requires
 valid-requires c κs = search needs
 
-judged : (c : tie.After-valid) (x : Bool) → c .valid .result ≡ x
+valid-is : (c : tie.After-valid) (x : Bool) → c .valid .result ≡ x
     → let a = c .before .before .before .before .before .before .before .args in
     (b : Book) → IsGraph b (a .vertices) (now (a .weights)) → valid (b .count) (now (a .paths)) (a .count) ≡ x
-judged c x e b g =
+valid-is c x e b g =
     let a = c .before .before .before .before .before .before .before .args in
     ap (λ n. valid n (now (a .paths)) (a .count)) (sym (g .vertices-are)) ∙ sym (c .valid .ensures) ∙ e
 
@@ -57,7 +57,7 @@ returns-5 c b g =
     (later (le-leb _ _ (v .before .before .before .before .if1 .left))
     (later (le-leb _ _ (v .before .before .before .if2 .left))
     (later (lt-ltb (a .start) (b .count) (omega (arith, g .vertices-are, v .before .before .if3 .left)))
-    (later (lt-ltb (a .end) (b .count) (omega (arith, g .vertices-are, v .before .if4 .left))) (here (judged v _ (not-true (v .valid .result) (c .if5 .taken)) b g))))))
+    (later (lt-ltb (a .end) (b .count) (omega (arith, g .vertices-are, v .before .if4 .left))) (here (valid-is v _ (not-true (v .valid .result) (c .if5 .taken)) b g))))))
 
 find-requires : tie.Need-find-requires
 find-requires c κs =
@@ -84,7 +84,7 @@ found c b g =
           lt-ltb (a .start) (b .count) (omega (arith, g .vertices-are, v .before .before .if3 .left)),
           (
             lt-ltb (a .end) (b .count) (omega (arith, g .vertices-are, v .before .if4 .left)),
-            (judged v _ (not-false (v .valid .result) (else5 .if5 .left)) b g, tt),
+            (valid-is v _ (not-false (v .valid .result) (else5 .if5 .left)) b g, tt),
           ),
         ),
       ),

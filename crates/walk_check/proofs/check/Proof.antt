@@ -34,14 +34,14 @@ book c =
     loaded (now (load .before .before .before .before .before .before .before .before .args .bytes)) (load .load .result) (c .read2 .given .0 .0) _ _ _ _ (load .load .ensures .0) (load .load .ensures .1) (c .read2 .given .1)
 
 -- the test of the area
-judged : (c : tie.After-valid) (x : Bool) → c .valid .result ≡ x
+valid-is : (c : tie.After-valid) (x : Bool) → c .valid .result ≡ x
     → let read = c .before .before .before in
     let a = read .before .before .before .before .before .before .before .before .before .before .args in
     valid (book read .book .count) (now (a .area)) (a .count) ≡ x
-judged c x e =
+valid-is c x e =
     let read = c .before .before .before in
     let a = read .before .before .before .before .before .before .before .before .before .before .args in
-    ap (λ n. valid n (now (a .area)) (a .count)) (sym (book read .graph .vertices-are)) ∙ sym (c .valid .ensures) ∙ e
+    ap (λ n. valid n (now (a .area)) (a .count)) (sym (book read .tables .graph .vertices-are)) ∙ sym (c .valid .ensures) ∙ e
 
 -- the test of the walk
 walked : (c : tie.After-is-walk) (x : Bool) → c .is-walk .result ≡ x
@@ -50,7 +50,7 @@ walked : (c : tie.After-is-walk) (x : Bool) → c .is-walk .result ≡ x
     checkable (graph (book read .book)) (now (a .walk)) ≡ x
 walked c x e =
     let b = book (c .before .before .before .before .before .before) in
-    sym (c .is-walk .ensures (b .book) (b .graph)) ∙ e
+    sym (c .is-walk .ensures (b .book) (b .tables .graph)) ∙ e
 
 returns : tie.Need-returns
 returns c =
@@ -67,10 +67,10 @@ returns-2 c =
     let read = valid .before .before .before in
     let a = read .before .before .before .before .before .before .before .before .before .before .args in
     check-fails (now (a .bytes)) (now (a .area)) (a .count) (now (a .walk)) (book read .book) (book read .is)
-    (later (le-leb _ _ (valid .before .if1 .left)) (here (judged valid _ (not-true (valid .valid .result) (c .if2 .taken)))))
+    (later (le-leb _ _ (valid .before .if1 .left)) (here (valid-is valid _ (not-true (valid .valid .result) (c .if2 .taken)))))
 
 is-walk-requires : tie.Need-is-walk-requires
-is-walk-requires c κs = let b = book (c .before .before .before .before .before) in (b .book, b .graph)
+is-walk-requires c κs = let b = book (c .before .before .before .before .before) in (b .book, b .tables .graph)
 
 returns-3 : tie.Need-returns-3
 returns-3 c =
@@ -81,7 +81,7 @@ returns-3 c =
     let a = read .before .before .before .before .before .before .before .before .before .before .args in
     check-fails (now (a .bytes)) (now (a .area)) (a .count) (now (a .walk)) (book read .book) (book read .is)
     (later (le-leb _ _ (valid .before .if1 .left))
-    (later (judged valid _ (not-false (valid .valid .result) (else2 .if2 .left))) (here (walked walk _ (not-true (walk .is-walk .result) (c .if3 .taken))))))
+    (later (valid-is valid _ (not-false (valid .valid .result) (else2 .if2 .left))) (here (walked walk _ (not-true (walk .is-walk .result) (c .if3 .taken))))))
 
 first-occurrence-requires : tie.Need-first-occurrence-requires
 first-occurrence-requires c κs =
@@ -89,7 +89,7 @@ first-occurrence-requires c κs =
     let valid = else2 .before in
     let read = valid .before .before .before in
     let a = read .before .before .before .before .before .before .before .before .before .before .args in
-    let fits = valid-fits (book read .book .count) (now (a .area)) (a .count) (judged valid _ (not-false (valid .valid .result) (else2 .if2 .left))) in
+    let fits = valid-fits (book read .book .count) (now (a .area)) (a .count) (valid-is valid _ (not-false (valid .valid .result) (else2 .if2 .left))) in
     (omega (arith, fits .0, valid .before .if1 .left), fits .1)
 
 returns-4 : tie.Need-returns-4
@@ -109,7 +109,7 @@ returns-5 c =
     c .first-occurrence .ensures
     ∙ check-done (now (a .bytes)) (now (a .area)) (a .count) (now (a .walk)) (book read .book) (book read .is) (
       le-leb _ _ (valid .before .if1 .left),
-      (judged valid _ (not-false (valid .valid .result) (else2 .if2 .left)), (walked walk _ (not-false (walk .is-walk .result) (else3 .if3 .left)), tt)),
+      (valid-is valid _ (not-false (valid .valid .result) (else2 .if2 .left)), (walked walk _ (not-false (walk .is-walk .result) (else3 .if3 .left)), tt)),
     )
 
 pub check-spec : {M : Type 1} → statement M

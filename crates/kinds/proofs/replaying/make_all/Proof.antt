@@ -63,8 +63,8 @@ returns c =
     made-last (now (a .bytes)) (answering (loop .rec) (loop .paths) (loop .walk)) (now (a .reports)) (loop .at) (answering (make .result) (make .last .1 .1 .1 .1 .0) (make .last .1 .1 .1 .1 .1 .0)) (make .ensures) (c .enum-told .given .1)
     ∙ loop .inv .0
 
-answer-requires : tie.Need-answer-requires Inv-loop μ-loop
-answer-requires c κs = search needs
+print-reported-requires : tie.Need-print-reported-requires Inv-loop μ-loop
+print-reported-requires c κs = search needs
 
 record-of-requires : tie.Need-record-of-requires Inv-loop μ-loop
 record-of-requires c κs = search needs
@@ -110,7 +110,7 @@ make-all-spec =
     same-length
     same-length-2
     returns
-    answer-requires
+    print-reported-requires
     record-of-requires
     loop-less
     loop-again

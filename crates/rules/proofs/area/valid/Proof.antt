@@ -1,4 +1,4 @@
--- `area::valid` meets its contract: the loop keeps what `Judged` says, and each way out gives the validity.
+-- `area::valid` meets its contract: the loop keeps what `ValidTo` says, and each way out gives the validity.
 use Prim.Native.Nat.{_+_, _-_, _*_, _≤_}
 use mathlib.Core.Bool.{true}
 use mathlib.Core.Path.{_≡_, refl, sym, ap, _∙_}
@@ -9,13 +9,13 @@ use lib.ListN.{length, take, drop}
 use lib.Seq.{paste}
 use Rattle.rules.specs.Area.{written, spelled, isEntry}
 use Rattle.limits.specs.Limits.{areaSize}
-use Rattle.rules.proofs.Validity.{Judged, too-many, started, clean-length, finished, not-taken, byte-fits, copied, full-length, repeated, judged-next}
+use Rattle.rules.proofs.Validity.{ValidTo, too-many, started, clean-length, finished, not-taken, byte-fits, copied, full-length, repeated, valid-next}
 use borrow.Author.Needs.{needs}
 use Rattle.rules.proofs.area.valid.Statement.{statement}
 use Rattle.rules.proofs.area.valid.Tie as tie
 
 abbrev Inv-loop : tie.InvT-loop
-Inv-loop area count vertices clean₀ k₀ clean k = Judged vertices area count clean k
+Inv-loop area count vertices clean₀ k₀ clean k = ValidTo vertices area count clean k
 
 abbrev μ-loop : tie.MeasureT-loop
 μ-loop area count vertices clean₀ k₀ clean k = count - k
@@ -147,7 +147,7 @@ loop-again c =
     let else2 = copied .before .before .before .before in
     let at-loop = else2 .before .before .before in
     let a = at-loop .before .before .before .args in
-    judged-next (a .vertices) (now (a .area)) (a .count) (at-loop .before .if1 .left) (at-loop .before .before .before .pre) (at-loop .loop .clean) (at-loop .loop .k) (at-loop .loop .inv)
+    valid-next (a .vertices) (now (a .area)) (a .count) (at-loop .before .if1 .left) (at-loop .before .before .before .pre) (at-loop .loop .clean) (at-loop .loop .k) (at-loop .loop .inv)
     (else2 .before .before .loop-test .taken) (taken else2) (copied .copy .last .1 .1 .0) (filled copied) (sym (c .before .found .ensures) ∙ c .if3 .left)
 
 slice-aggregate-same-bytes : tie.Need-slice-aggregate-same-bytes Inv-loop μ-loop
