@@ -23,10 +23,10 @@ use Rattle.rules.specs.Binding.{known}
 use Rattle.rules.specs.Area.{blocks, spelled}
 use Rattle.rules.specs.AreaLaws.{length-blocks}
 use Rattle.rules.specs.ValidLaws.{Valid, valid→Valid}
-use Rattle.rules.specs.Operations.{Binding, bindTests, boundAs, bindingOf, binding, areaAfter}
+use Rattle.rules.specs.Operations.{Binding, boundUnless, bindTests, boundAs, bindingOf, binding, areaAfter}
 use Rattle.rules.specs.Laws.{bind-accepted}
 use Rattle.walk_check.specs.Laws.{sizes}
-use Rattle.walk_check.specs.Checking.{verdict, occurrence, checkTests, checking}
+use Rattle.walk_check.specs.Checking.{checkedUnless, occurrence, checkTests, checking}
 use Rattle.planner.specs.declared.Outcome.{Outcome}
 use Rattle.planner.specs.Planning.{planTests, Planned, PlanningOf}
 use Rattle.listed.specs.declared.Arc.{Arc as Item}
@@ -43,7 +43,6 @@ use Rattle.demands.specs.Demands.{ClearOrOccurs, tests-of-begin, WalkOrN
 use Rattle.demands.specs.RefusalLaws.{check-finds}
 use Rattle.demands.specs.Conditions.{AllHold, zero-one}
 use Rattle.demands.specs.Asked.{planConditions, checkConditions, reportConditions, conditions}
-use Rattle.rules.specs.Operations
 
 -- ---- planning
 -- Where nothing is refused, the best walk or its absence is an answer, and there is no other kind.
@@ -106,7 +105,7 @@ list-answers n xs c read paths count start end walk h =
 check-gets : (s area : List ℕ) (count : ℕ) (w : List ℕ) (b : Book) → reading s ≡ accepted b → AllHold (checkConditions area count w b) → ClearOrOccurs (checking s area count w)
 check-gets s area count w b read h =
     let none-refused : refusalOf (reading s) (checkTests area count w) ≡ none = conditions (reading s) .check area count w .accepts .1 (b, read, h) in
-    subst (λ o. ClearOrOccurs (verdict o (occurrence (spelled count area) w))) (sym none-refused) (check-finds (spelled count area) w (length w) 1)
+    subst (λ o. ClearOrOccurs (checkedUnless o (occurrence (spelled count area) w))) (sym none-refused) (check-finds (spelled count area) w (length w) 1)
 
 begun-gets : (o : Option Refusal) (σ : State) (paths walk : List ℕ) → o ≡ none → (r : Record) × (begunAs o σ paths walk .answer ≡ Begun.Record r)
 begun-gets none σ paths walk e = (σ .rec, refl)
@@ -126,7 +125,7 @@ module _ (s : List ℕ) (b : Book) (read : reading s ≡ accepted b) (flags : �
   pub binds : areaSize ≤ length area → binding s flags area ≡ Binding.bound (known flags (b .sets))
   binds fits =
       let none-refused : refusalBy (bindTests area b) ≡ none = conditions (accepted b) .bind area .accepts .1 (b, refl, (fits, tt)) in
-      ap (λ x. bindingOf x flags area) read ∙ ap (λ o. Operations.outcome o (known flags (b .sets))) none-refused
+      ap (λ x. bindingOf x flags area) read ∙ ap (λ o. boundUnless o (known flags (b .sets))) none-refused
 
   pub binds-valid : areaSize ≤ length area
       → (areaSize ≤ length (areaAfter (binding s flags area) area)) × Valid (b .count) (areaAfter (binding s flags area) area) (length (known flags (b .sets)))

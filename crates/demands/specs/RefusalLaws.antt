@@ -16,9 +16,9 @@ use Rattle.book.specs.Reading.{Reading, accepted, refused, reading, readAs, ref
 use Rattle.rules.specs.declared.Bound.{Bound}
 use Rattle.rules.specs.Area.{spelled}
 use Rattle.rules.specs.Binding.{known}
-use Rattle.rules.specs.Operations.{outcome, bindTests, boundAs, binding, areaAfter}
+use Rattle.rules.specs.Operations.{boundUnless, bindTests, boundAs, binding, areaAfter}
 use Rattle.walk_check.specs.declared.Checked.{Checked}
-use Rattle.walk_check.specs.Checking.{namedAt, answerAt, checkFrom, verdict, occurrence, checkTests}
+use Rattle.walk_check.specs.Checking.{namedAt, answerAt, checkFrom, checkedUnless, occurrence, checkTests}
 use Rattle.planner.specs.declared.Outcome.{Outcome}
 use Rattle.planner.specs.Planning.{planTests, Planned, PlanningOf}
 use Rattle.listed.specs.Listing.{listing}
@@ -62,11 +62,11 @@ found-unrefused : (c : Checked) → ClearOrOccurs c → (x : Refusal) → c ≡ 
 found-unrefused c (inl is) x e = zero-one (cc)
 found-unrefused c (inr (place, size, is)) x e = zero-one (cc)
 
-check-iff : (o : Option Refusal) (F : List (List ℕ)) (w : List ℕ) (x : Refusal) → (verdict o (occurrence F w) ≡ Checked.Refused x) ↔ (o ≡ some x)
+check-iff : (o : Option Refusal) (F : List (List ℕ)) (w : List ℕ) (x : Refusal) → (checkedUnless o (occurrence F w) ≡ Checked.Refused x) ↔ (o ≡ some x)
 check-iff none F w x = (λ e. absurd (found-unrefused (occurrence F w) (check-finds F w (length w) 1) x e), λ e. absurd (Option·none-ne-some _ e))
 check-iff (some y) F w x = (λ e. let same : y ≡ x = cc in ap some same, λ e. let same : y ≡ x = cc in ap Checked.Refused same)
 
-bind-tells : (o : Option Refusal) (F : List (List ℕ)) (area : List ℕ) (x : Refusal) → Tells o x (boundAs (outcome o F) ≡ Bound.Refused x) (areaAfter (outcome o F) area ≡ area)
+bind-tells : (o : Option Refusal) (F : List (List ℕ)) (area : List ℕ) (x : Refusal) → Tells o x (boundAs (boundUnless o F) ≡ Bound.Refused x) (areaAfter (boundUnless o F) area ≡ area)
 bind-tells none F area x = record { defined = (λ e. zero-one (cc), λ e. absurd (Option·none-ne-some _ e)); keeps = λ e. zero-one (cc) }
 bind-tells (some y) F area x =
     record { defined = (λ e. let same : y ≡ x = cc in ap some same, λ e. let same : y ≡ x = cc in ap Bound.Refused same); keeps = λ e. refl }
