@@ -77,7 +77,7 @@ simple-once count (v ∷ vs) e =
     let both = and-true (ltb v count && not (names vs v)) (simple count vs) e in
     (not-true _ (and-true (ltb v count) _ (both .0) .1), simple-once count vs (both .1))
 
-path-simple : (count : ℕ) (p : List ℕ) → All (λ v. v < count) p → VerticesOnce p → simple count p ≡ true
+pub path-simple : (count : ℕ) (p : List ℕ) → All (λ v. v < count) p → VerticesOnce p → simple count p ≡ true
 unfolding simple
 path-simple count [] below once = refl
 path-simple count (v ∷ vs) below once = rw (lt-ltb v count (below .0), once .0, path-simple count vs (below .1) (once .1))

@@ -1,17 +1,12 @@
 -- What the comparisons find in records and in refusals.
 use Prim.Native.Nat.{ℕ}
 use mathlib.Core.Bool.{false, false≢true}
-use mathlib.Core.List.{List, [], _∷_}
-use mathlib.Core.Logic.{inl, inr}
-use mathlib.Core.Path.{_≡_, sym, ap, ap₂, subst, _∙_}
+use mathlib.Core.Path.{_≡_, sym, ap, ap₂, _∙_}
 use native.Mathlib.Omega.{arith}
-use denote.Enum.Declared.{Choice}
-use denote.Struct.Field.{Field}
-use denote.Struct.Values.{Values}
 use Rattle.book.specs.declared.Number.{Number}
 use Rattle.book.specs.declared.Refusal.{Refusal}
 use Rattle.book.specs.Refusal.{numberOf, numbered}
-use Rattle.book.proofs.Refusal.{parts, make, as-values, eta}
+use Rattle.rules.specs.Numbers.{refusal-again}
 use Rattle.trial_record.specs.declared.Record.{Record}
 use Rattle.trials.specs.declared.Begun.{Begun}
 use Rattle.cases.specs.Same.{Tells}
@@ -25,23 +20,6 @@ module _ {A : Type 0} {x y : A} where
 pub same-fields : (x y : Record) → x .stage ≡ y .stage → x .start ≡ y .start → x .end ≡ y .end → x .known ≡ y .known → x .first ≡ y .first → x .failed ≡ y .failed → x .passed ≡ y .passed → x .litres ≡ y .litres → x .length ≡ y .length → x ≡ y
 same-fields x y e₁ e₂ e₃ e₄ e₅ e₆ e₇ e₈ e₉ =
     λ i. record { stage = e₁ i; start = e₂ i; end = e₃ i; known = e₄ i; first = e₅ i; failed = e₆ i; passed = e₇ i; litres = e₈ i; length = e₉ i }
-
--- What holds in each case of an enum holds of all its values.
-abbrev InEach : (cases : List (List Field)) → (Choice cases → Type 0) → Type 0
-InEach [] P = Unit
-InEach (c ∷ cs) P = ((v : Values c) → P (inl v)) × InEach cs (λ x. P (inr x))
-
-each : (cases : List (List Field)) (P : Choice cases → Type 0) → InEach cases P → (x : Choice cases) → P x
-each [] P h x = absurd x
-each (c ∷ cs) P h (inl v) = h .0 v
-each (c ∷ cs) P h (inr x) = each cs (λ y. P (inr y)) (h .1) x
-
--- A refusal is known by its number and its place: in each case both sides compute to it.
-abbrev Again : Refusal → Type 0
-Again r = numbered (numberOf r .number) (numberOf r .place) ≡ r
-
-refusal-again : (r : Refusal) → Again r
-refusal-again r = subst Again (eta r) (each parts (λ x. Again (make x)) (search tt depth 60 fits 5000) (as-values r))
 
 -- What tells two refusals apart.
 module _ (x y : Refusal) {a b : Number} (of-x : a ≡ numberOf x) (of-y : b ≡ numberOf y) where

@@ -38,7 +38,7 @@ use Rattle.demands.specs.Conditions.{Condition, asks, AllHold, FirstFail
 abbrev pub bindConditions : List ℕ → Book → List Condition
 bindConditions area b = asks 8 (areaSize ≤ length area) ∷ []
 
--- 9: the area holds, as entries, that many different runs that the book's rules take, at most 256, and no other byte that is not 0.
+-- 9: the area's 2,304 bytes hold, as entries, that many different runs that the book's rules take, at most 256, and no other byte that is not 0.
 -- 10: not over 1,600 grades, and a line-up of the book.
 abbrev pub checkConditions : List ℕ → ℕ → List ℕ → Book → List Condition
 checkConditions area count w b =
@@ -162,52 +162,52 @@ room-iff σ (failed p) = lt-iff (σ .rec .known) mostPaths
 
 -- ---- each operation
 bind-decides : (area : List ℕ) (b : Book) → Decides 0 (bindTests area b) (bindConditions area b)
-bind-decides area b = (le-iff areaSize (length area), refl, λ _. tt)
+bind-decides area b = (le-iff areaSize (length area), (refl, refl), λ _. tt)
 
 check-decides : (area : List ℕ) (count : ℕ) (w : List ℕ) (b : Book) → Decides 0 (checkTests area count w b) (checkConditions area count w b)
 check-decides area count w b = (
   le-iff areaSize (length area),
-  refl,
+  (refl, refl),
   λ _. (
     valid-iff (b .count) area count,
-    refl,
-    λ _. (and-iff (leb (length w) longest) (isWalk (graph b) w) (le-iff (length w) longest) (walk-iff (graph b) w), refl, λ _. tt),
+    (refl, refl),
+    λ _. (and-iff (leb (length w) longest) (isWalk (graph b) w) (le-iff (length w) longest) (walk-iff (graph b) w), (refl, refl), λ _. tt),
   ),
 )
 
 plan-decides : (paths : List ℕ) (count start end : ℕ) (walk : List ℕ) (b : Book) → Decides 0 (planTests paths count start end walk b) (planConditions paths count start end walk b)
 plan-decides paths count start end walk b = (
   le-iff areaSize (length paths),
-  refl,
+  (refl, refl),
   λ _. (
     le-iff longest (length walk),
-    refl,
-    λ _. (lt-iff start (b .count), refl, λ _. (lt-iff end (b .count), refl, λ _. (valid-iff (b .count) paths count, refl, λ _. tt))),
+    (refl, refl),
+    λ _. (lt-iff start (b .count), (refl, refl), λ _. (lt-iff end (b .count), (refl, refl), λ _. (valid-iff (b .count) paths count, (refl, refl), λ _. tt))),
   ),
 )
 
 begin-decides : (start end : ℕ) (paths walk : List ℕ) (b : Book) → Decides 0 (beginTests (graph b) start end paths walk) (beginConditions start end paths walk b)
 begin-decides start end paths walk b = (
   le-iff areaSize (length paths),
-  refl,
-  λ _. (le-iff longest (length walk), refl, λ _. (lt-iff start (b .count), refl, λ _. (lt-iff end (b .count), refl, λ _. tt))),
+  (refl, refl),
+  λ _. (le-iff longest (length walk), (refl, refl), λ _. (lt-iff start (b .count), (refl, refl), λ _. (lt-iff end (b .count), (refl, refl), λ _. tt))),
 )
 
 report-decides : (r : Record) (paths walk : List ℕ) (ρ : Report) (b : Book) → Decides 0 (reportTests r paths walk ρ b) (reportConditions r paths walk ρ b)
 report-decides r paths walk ρ b =
     let σ = stateOf r paths walk in (
       le-iff areaSize (length paths),
-      refl,
+      (refl, refl),
       λ _. (
         le-iff longest (length walk),
-        refl,
+        (refl, refl),
         λ _. (
           valid-iff (b .count) paths (r .known),
-          refl,
+          (refl, refl),
           λ v. (
             record-iff b r paths walk v,
-            refl,
-            λ _. (eq-iff (r .stage) 0, refl, λ _. (names-iff (graph b) σ ρ, refl, λ _. (room-iff σ ρ, refl, λ _. tt))),
+            (refl, refl),
+            λ _. (eq-iff (r .stage) 0, (refl, refl), λ _. (names-iff (graph b) σ ρ, (refl, refl), λ _. (room-iff σ ρ, (refl, refl), λ _. tt))),
           ),
         ),
       ),

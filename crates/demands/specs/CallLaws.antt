@@ -18,7 +18,6 @@ use Rattle.book.specs.Refusal.{numberOf, test, refusalBy}
 use Rattle.book.specs.Book.{Book, WellFormed, graph}
 use Rattle.book.specs.Reading.{accepted, reading, refusalOf, bookIn}
 use Rattle.rules.specs.Binding.{known}
-use Rattle.rules.specs.Laws.{known→Applied, Applied→known}
 use Rattle.trial_record.specs.declared.Record.{Record}
 use Rattle.trial_rules.specs.Trials.{Report, passed, failed, State, pathArea, isNamed, hasRoom, oracleTests, refusal, Valid, beginRefusal, unless, step, after, run, accepted as acceptedFrom, EachAccepted, Begin}
 use Rattle.trial_rules.specs.Lacking.{lacking, together, together-is, lacking-into, lacking-from, lacking-distinct}
@@ -33,6 +32,7 @@ use Rattle.trials.specs.Replanning.{known-set}
 use Rattle.series.specs.Reports.{reportsOf}
 use Rattle.series.specs.Making.{replayingOf, replaying}
 use Rattle.series.specs.Whole.{leavesOf, report-leaves, after-keeps, opened}
+use Rattle.demands.specs.Marks.{known→sheet, sheet→known}
 use Rattle.demands.specs.Calls.{answerOn, answersOn, acceptedBy, acceptedOn, TrueReport, TrueLab, HowMany, OfEither, LabsOnly, Free}
 
 -- ---- how many
@@ -55,8 +55,8 @@ module _ (b : Book) (w : WellFormed b) (flags : ℕ) (R : List (List ℕ)) where
         once = d .distinct;
         each =
             λ r. (
-              λ m. ⊎-elim (λ k. inl (known→Applied flags (b .sets) k)) inr (List·Memᴰ·append-cases F₀ (d .from r m)),
-              ⊎-elim (λ a. d .into r (Memᴰ·append-left R (Applied→known flags (b .sets) a))) (λ m. d .into r (Memᴰ·append-right F₀ m)),
+              λ m. ⊎-elim (λ k. inl (known→sheet b flags k)) inr (List·Memᴰ·append-cases F₀ (d .from r m)),
+              ⊎-elim (λ o. d .into r (Memᴰ·append-left R (sheet→known b flags o))) (λ m. d .into r (Memᴰ·append-right F₀ m)),
             );
         number = refl;
       }
@@ -68,8 +68,8 @@ module _ (b : Book) (w : WellFormed b) (flags : ℕ) (R : List (List ℕ)) where
         once = lacking-distinct F₀ R;
         each =
             λ r. (
-              λ m. (lacking-from F₀ R r m .0, λ a. lacking-from F₀ R r m .1 (Applied→known flags (b .sets) a)),
-              λ h. lacking-into F₀ R r (h .0) (λ m. h .1 (known→Applied flags (b .sets) m)),
+              λ m. (lacking-from F₀ R r m .0, λ o. lacking-from F₀ R r m .1 (sheet→known b flags o)),
+              λ h. lacking-into F₀ R r (h .0) (λ m. h .1 (known→sheet b flags m)),
             );
         number = refl;
       }
@@ -85,15 +85,14 @@ module _ {b : Book} {flags : ℕ} {R : List (List ℕ)} {start end : ℕ} {w : L
         ends = c .ends;
         clear =
             λ r m.
-            ⊎-elim (λ k. let a = known→Applied flags (b .sets) k in f .avoids-sheets (a .set) (a .listed) (a .applying) r (a .path)) (c .clear r)
+            ⊎-elim (λ k. f .avoids-sheets r (known→sheet b flags k)) (c .clear r)
             (List·Memᴰ·append-cases (known flags (b .sets)) m);
       }
 
   pub feasible→free : Feasible (graph b) (known flags (b .sets) ++ R) start end w → Free b flags R start end w
   feasible→free f =
       record {
-        avoids-sheets =
-            λ set m e r k. f .clear r (Memᴰ·append-left R (Applied→known flags (b .sets) (record { set = set; listed = m; applying = e; path = k })));
+        avoids-sheets = λ r o. f .clear r (Memᴰ·append-left R (sheet→known b flags o));
         avoids-lab =
             record { walk = f .walk; starts = f .starts; ends = f .ends; clear = Avoids·mono (λ r m. Memᴰ·append-right (known flags (b .sets)) m) (f .clear) };
       }

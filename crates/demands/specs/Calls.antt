@@ -10,16 +10,15 @@ use Rattle.lists.specs.Distinct.{Distinct}
 use Rattle.walks.specs.Avoid.{Occurs, Avoids}
 use Rattle.walks.specs.Best.{Feasible}
 use Rattle.limits.specs.Limits.{mostPaths}
-use Rattle.book.specs.Book.{RuleSet, Book, IsPath, graph}
+use Rattle.book.specs.Book.{Book, IsPath, graph}
 use Rattle.book.specs.Reading.{accepted, reading}
-use Rattle.rules.specs.Binding.{applies}
-use Rattle.rules.specs.Laws.{Applied}
 use Rattle.trial_record.specs.declared.Record.{Record}
 use Rattle.trial_rules.specs.Trials.{Report, passed, failed}
 use Rattle.trials.specs.declared.Begun.{Begun}
 use Rattle.trials.specs.declared.Reported.{Reported}
 use Rattle.trials.specs.Operations.{Leaves, answering, beginning, reporting}
 use Rattle.series.specs.Whole.{reportOn}
+use Rattle.demands.specs.Marks.{OfSheet, Clear}
 
 -- ---- the calls, and their answers
 -- An accepted begin in a book that is read: the book's bytes, a batch with its flags, start and end, both areas as lent; and the record that
@@ -84,12 +83,12 @@ pub record HowMany (P : List ℕ → Type 0) (n : ℕ) : Type 0 where
   pub each : (r : List ℕ) → List·Memᴰ r listed ↔ P r
   pub number : length listed ≡ n
 
--- A path of a rule set that applies (01: a run of a sheet that binds the batch), or of the lab's R. A path of R that no such rule set has.
+-- A run of a sheet that binds the batch, or of the lab's R. A run of R that no such sheet has.
 abbrev pub OfEither : Book → ℕ → List (List ℕ) → List ℕ → Type 0
-OfEither b flags R r = Applied flags (b .sets) r ⊎ List·Memᴰ r R
+OfEither b flags R r = OfSheet b flags r ⊎ List·Memᴰ r R
 
 abbrev pub LabsOnly : Book → ℕ → List (List ℕ) → List ℕ → Type 0
-LabsOnly b flags R r = List·Memᴰ r R × (Applied flags (b .sets) r → ⊥)
+LabsOnly b flags R r = List·Memᴰ r R × (OfSheet b flags r → ⊥)
 
 -- What 01 asks of the lab's R: runs, all over the book's grades; with those of the binding sheets they make at most 256 different ones, one
 -- in both counted once.
@@ -99,7 +98,7 @@ pub record LabSet (b : Book) (flags : ℕ) (R : List (List ℕ)) : Type 0 where
   pub counted : HowMany (OfEither b flags R) together
   pub few : together ≤ mostPaths
 
--- A walk from start to end (01: a line-up) that avoids all of R, and all paths of each rule set that applies.
+-- A walk from start to end (01: a line-up) that avoids all of R, and all runs of the sheets that bind the batch.
 pub record Free (b : Book) (flags : ℕ) (R : List (List ℕ)) (start end : ℕ) (w : List ℕ) : Type 0 where
   pub avoids-lab : Feasible (graph b) R start end w
-  pub avoids-sheets : (set : RuleSet) → List·Memᴰ set (b .sets) → applies flags set ≡ true → Avoids (set .paths) w
+  pub avoids-sheets : Clear b flags w

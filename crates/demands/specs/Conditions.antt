@@ -1,6 +1,6 @@
 -- Conditions, each with the number of the refusal where it does not hold: all hold, or the first that does not decides. And tests that decide them.
 use Prim.Native.Nat.{ℕ, _≤_, _<_}
-use mathlib.Core.Path.{_≡_, refl, sym, ap, ap₂, _∙_}
+use mathlib.Core.Path.{_≡_, refl, sym, ap, ap₂, subst, _∙_}
 use mathlib.Core.Bool.{Bool, true, false, cond, _&&_, true≢false}
 use mathlib.Core.List.{List, [], _∷_}
 use mathlib.Core.Logic.{_↔_, _⊎_, inl, inr}
@@ -10,7 +10,8 @@ use borrow.Author.Tests.{leb-true, le-leb, ltb-true, lt-ltb, eqb-true, eq-eqb}
 use lib.Dec.{eqb, leb, ltb}
 use Rattle.lists.specs.Test.{and-true}
 use Rattle.book.specs.declared.Refusal.{Refusal}
-use Rattle.book.specs.Refusal.{Test, numbered, firstFailure}
+use Rattle.book.specs.Refusal.{Test, numberOf, numbered, firstFailure}
+use Rattle.rules.specs.Numbers.{refusal-again}
 
 -- What is asked, and the refusal's number where it is not so.
 pub record Condition : Type 1 where
@@ -24,10 +25,18 @@ abbrev pub AllHold : List Condition → Type 0
 AllHold [] = Unit {0}
 AllHold (c ∷ cs) = c .holds × AllHold cs
 
--- x has the number of the first condition that does not hold, and the place (0 where a refusal has none).
+-- x has 01's number n and carries the place (0 where a refusal has none).
+abbrev pub HasNumber : Refusal → ℕ → ℕ → Type 0
+HasNumber x n at = (numberOf x .number ≡ n) × (numberOf x .place ≡ at)
+
+-- x has the number of the first condition that does not hold.
 abbrev pub FirstFails : ℕ → List Condition → Refusal → Type 0
 FirstFails at [] x = ⊥
-FirstFails at (c ∷ cs) x = ((c .holds → ⊥) × (x ≡ numbered (c .number) at)) ⊎ (c .holds × FirstFails at cs x)
+FirstFails at (c ∷ cs) x = ((c .holds → ⊥) × HasNumber x (c .number) at) ⊎ (c .holds × FirstFails at cs x)
+
+-- There is one refusal of a number and place.
+pub one-refusal : {x y : Refusal} {n at : ℕ} → HasNumber x n at → HasNumber y n at → x ≡ y
+one-refusal {x} {y} h k = sym (refusal-again x) ∙ ap₂ numbered (h .0 ∙ sym (k .0)) (h .1 ∙ sym (k .1)) ∙ refusal-again y
 
 -- ---- tests that decide conditions
 -- One after the other: a test has to decide its condition only where those before it hold.
@@ -35,7 +44,7 @@ abbrev pub Decides : ℕ → List Test → List Condition → Type 0
 Decides at [] [] = Unit {0}
 Decides at [] (c ∷ cs) = ⊥
 Decides at (t ∷ ts) [] = ⊥
-Decides at (t ∷ ts) (c ∷ cs) = ((t .holds ≡ true) ↔ c .holds) × (t .refusal ≡ numbered (c .number) at) × (c .holds → Decides at ts cs)
+Decides at (t ∷ ts) (c ∷ cs) = ((t .holds ≡ true) ↔ c .holds) × HasNumber (t .refusal) (c .number) at × (c .holds → Decides at ts cs)
 
 pub first-none : (at : ℕ) (ts : List Test) (cs : List Condition) → Decides at ts cs → (firstFailure ts ≡ none) ↔ AllHold cs
 first-none at [] [] d = (λ _. tt, λ _. refl)
@@ -61,10 +70,10 @@ first-some at (t ∷ ts) (c ∷ cs) x (same, is, rest) = go (t .holds) refl (fir
         back : FirstFails at (c ∷ cs) x → firstFailure ts ≡ some x
         back (inl (no-c, _)) = absurd (no-c (same .0 e))
         back (inr (yes-c, f)) = later (rest yes-c) .1 f
-    go false e later = (λ q. let at : t .refusal ≡ x = cc q in inl (λ a. true≢false (sym (same .1 a) ∙ e), sym at ∙ is), back)
+    go false e later = (λ q. let here : t .refusal ≡ x = cc q in inl (λ a. true≢false (sym (same .1 a) ∙ e), subst (λ (y : Refusal). HasNumber y (c .number) at) here is), back)
       where
         back : FirstFails at (c ∷ cs) x → some (t .refusal) ≡ some x
-        back (inl (_, at)) = ap some (is ∙ sym at)
+        back (inl (_, has)) = ap some (one-refusal is has)
         back (inr (yes-c, _)) = absurd (true≢false (sym (same .1 yes-c) ∙ e))
 
 -- ---- tests on numbers

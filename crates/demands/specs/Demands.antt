@@ -33,7 +33,7 @@ use Rattle.listed.specs.declared.Arc.{Arc as Item}
 use Rattle.listed.specs.Listing.{listing}
 use Rattle.listed.specs.SameBook.{arcsOf}
 use Rattle.trial_record.specs.declared.Record.{Record}
-use Rattle.trial_rules.specs.Trials.{Report, run, beginTests, ForbiddenSet, overlaid, Plan, accepted as acceptedFrom, named, failures, passes, replanned}
+use Rattle.trial_rules.specs.Trials.{Report, run, beginTests, ForbiddenSet, overlaid, Plan, Planner, accepted as acceptedFrom, named, failures, passes, replanned}
 use Rattle.judging.specs.Judging.{reportTests}
 use Rattle.trials.specs.declared.Begun.{Begun}
 use Rattle.trials.specs.declared.Reported.{Reported}
@@ -44,7 +44,7 @@ use Rattle.series.specs.Whole.{leavesOf, reportsOn}
 use Rattle.demands.specs.Conditions.{Condition}
 use Rattle.demands.specs.Asked.{planConditions, checkConditions, reportConditions, bindConditions, beginConditions, Cause}
 use Rattle.demands.specs.Fields.{BadBook, BadList}
-use Rattle.demands.specs.Marks.{Binds}
+use Rattle.demands.specs.Marks.{Binds, Clear}
 use Rattle.demands.specs.Calls.{AcceptedBegin, opening, answerOn, acceptedOn, standingIn, TrueReport, TrueLab, HowMany, LabsOnly, LabSet, Free}
 
 -- ==== Demand 1
@@ -133,6 +133,7 @@ pub record Refusals (s : List ℕ) (x : Refusal) : Type 0 where
 pub record Demand1 : Type 0 where
   -- 'Every book of changeovers and rule sheets that keeps the rules of document 01 is read': just these, each from one string of bytes, its own.
   pub read-exactly : (s : List ℕ) → AreBytes s → (b : Book) → (reading s ≡ accepted b) ↔ (Keeps b × (s ≡ bytesOf b))
+  pub own-bytes : (b : Book) → Keeps b → AreBytes (bytesOf b)
   pub every-book : (b : Book) → Keeps b → reading (bytesOf b) ≡ accepted b
   pub one-string : (s t : List ℕ) → AreBytes s → AreBytes t → (b : Book) → reading s ≡ accepted b → reading t ≡ accepted b → s ≡ t
   -- 01: 'The longest acceptable book has 39,188 bytes.' There is one.
@@ -146,11 +147,7 @@ pub record Demand1 : Type 0 where
   pub refusals : (s : List ℕ) (x : Refusal) → Refusals s x
 
 -- ==== Demand 2
--- The line-up w contains no forbidden run of any sheet that binds the batch.
-abbrev pub Clear : Book → ℕ → List ℕ → Type 0
-Clear b flags w = (set : RuleSet) → List·Memᴰ set (b .sets) → Binds set flags → (p : List ℕ) → List·Memᴰ p (set .paths) → Occurs p w → ⊥
-
--- A line-up from start to end that contains none.
+-- A line-up from start to end that contains no forbidden run of any sheet that binds the batch.
 pub record Allowed (b : Book) (flags start end : ℕ) (w : List ℕ) : Type 0 where
   pub walk : Walk (graph b) w
   pub starts : getD w 0 0 ≡ start
@@ -254,7 +251,9 @@ module _ (β : AcceptedBegin) where
     -- Each report gets record and areas as begin or the report before it left them; accepted ones are those with that answer.
     pub left : l ≡ reportsOn s (opening β) ρs
     pub answered : done ≡ acceptedOn s (opening β) ρs
-    -- The record and every byte of both areas are those that the rules give, and the reports that the rules accept are those.
+    -- The record and every byte of both areas are those that the rules give, with the best of all line-ups, or none, for each plan; and the
+    -- reports that the rules accept are those.
+    pub planner : Planner g plan
     pub ruled : l ≡ leavesOf (run g plan (firstState b flags start end paths walk) ρs)
     pub accepted-ruled : done ≡ acceptedFrom g plan (firstState b flags start end paths walk) ρs
     -- A refused report hands back the record as it came and leaves every byte; it is as if not made.

@@ -1,7 +1,7 @@
 -- 01, 'Who can cause a refusal', of the book's maker: 1 to 6 in words, field by field. 'The first bad field decides', and 'refusals 1 to 6 carry the
 -- byte at which the field starts'. Likewise 4 and 5 of a list of arcs, with the item's index. And that reading decides just this.
 use Prim.Native.Nat.{ℕ, zero, suc, _+_, _≤_, _<_}
-use mathlib.Core.Path.{_≡_, refl, sym, ap, ap₂, _∙_}
+use mathlib.Core.Path.{_≡_, refl, sym, ap, ap₂, subst, _∙_}
 use mathlib.Core.Bool.{Bool, true, false, not, cond, _&&_, _||_, true≢false, false≢true}
 use mathlib.Core.List.{List, [], _∷_, _++_, List·Memᴰ, List·Memᴰ·head, List·Memᴰ·tail}
 use mathlib.Core.Logic.{_↔_, _⊎_, inl, inr}
@@ -18,12 +18,12 @@ use Rattle.book.specs.declared.Kind.the-variants.{VertexCount, Path, Unknown}
 use Rattle.book.specs.declared.Refusal.{Refusal}
 use Rattle.book.specs.Refusal.{Test, numbered, firstFailure}
 use Rattle.book.specs.Book.{Book, RuleSet, All, IsArc, VerticesOnce, blank, allPaths, given, simple, properArc}
-use Rattle.book.specs.BookLaws.{is-arc, simple-below, simple-once, given-cons, not-zero}
+use Rattle.book.specs.BookLaws.{is-arc, arc-passes, simple-below, simple-once, path-simple, given-cons, not-zero}
 use Rattle.book.specs.Reading.{accepted, refused, reading, andThen, outcome, fields, field, framing, content, extended, kindAt, lengthAt, endAt, countAt, arcAt, pathAt, follows, fits, proper, fresh, room, addArc, arcTests}
 use Rattle.rules.specs.Sets.{refuted}
 use Rattle.listed.specs.declared.Arc.{Arc as Item}
 use Rattle.listed.specs.Listing.{arcOf, counting, items, listing}
-use Rattle.demands.specs.Conditions.{Condition, asks, AllHold, FirstFails, Decides, first-none, first-some, le-iff, lt-iff, eq-iff, and-iff, zero-one}
+use Rattle.demands.specs.Conditions.{Condition, asks, AllHold, HasNumber, one-refusal, FirstFails, Decides, first-none, first-some, le-iff, lt-iff, eq-iff, and-iff, zero-one}
 
 -- ---- the conditions of a field, after the book b that the fields before it make
 -- 2: a known tag, where the order lets it stand: the count once and first, then arcs, then rule sets, each followed by its paths.
@@ -89,7 +89,7 @@ pub data BadField (s : List ℕ) : Book → ℕ → Refusal → Type 0 where
 
 -- 'also the empty book, at 0'
 abbrev pub BadBook : List ℕ → Refusal → Type 0
-BadBook s x = ((s ≡ []) × (x ≡ numbered 1 0)) ⊎ BadField s blank 0 x
+BadBook s x = ((s ≡ []) × HasNumber x 1 0) ⊎ BadField s blank 0 x
 
 -- The same of a list of arcs with its count: 'refusals 4 and 5 then give the item's index from 0; a bad count is 4 with index 0, before any item'.
 abbrev pub countConditions : ℕ → List Condition
@@ -136,19 +136,10 @@ fits-iff Path n = and-iff (leb 2 n) (leb n longestPath) (le-iff 2 n) (le-iff n l
 fits-iff Unknown n = never
 
 arc-iff : (n : ℕ) (a : Arc) → (properArc n a ≡ true) ↔ IsArc n a
-arc-iff n a = (is-arc n a, passes)
-  where
-    passes : IsArc n a → properArc n a ≡ true
-    passes is =
-        ap₂ _&&_ (ap₂ _&&_ (ap₂ _&&_ (lt-ltb _ _ (is .tail-below)) (lt-ltb _ _ (is .head-below))) (ap not (ne-eqb _ _ (is .different)))) (le-iff (a .weight) heaviest .1 (is .light))
-
-is-simple : (n : ℕ) (p : List ℕ) → All (λ v. v < n) p → VerticesOnce p → simple n p ≡ true
-unfolding simple
-is-simple n [] below once = refl
-is-simple n (v ∷ p) below once = ap₂ _&&_ (ap₂ _&&_ (lt-ltb v n (below .0)) (ap not (once .0))) (is-simple n p (below .1) (once .1))
+arc-iff n a = (is-arc n a, arc-passes n a)
 
 simple-iff : (n : ℕ) (p : List ℕ) → (simple n p ≡ true) ↔ (All (λ v. v < n) p × VerticesOnce p)
-simple-iff n p = (λ e. (simple-below n p e, simple-once n p e), λ h. is-simple n p (h .0) (h .1))
+simple-iff n p = (λ e. (simple-below n p e, simple-once n p e), λ h. path-simple n p (h .0) (h .1))
 
 proper-iff : (k : Kind) (s : List ℕ) (b : Book) (at : ℕ) → (proper k s b at ≡ true) ↔ Proper k s b at
 proper-iff VertexCount s b at = and-iff (leb 1 (countAt s at)) (leb (countAt s at) mostVertices) (le-iff 1 (countAt s at)) (le-iff (countAt s at) mostVertices)
@@ -197,17 +188,17 @@ field-decides : (s : List ℕ) (b : Book) (at : ℕ) → Decides at (fieldTests 
 field-decides s b at =
     let k = kindAt s at in (
       le-iff (at + 3) (length s),
-      refl,
+      (refl, refl),
       λ _. (
         follows-iff k b,
-        refl,
+        (refl, refl),
         λ _. (
           fits-iff k (lengthAt s at),
-          refl,
+          (refl, refl),
           λ _. (
             le-iff (endAt s at) (length s),
-            refl,
-            λ _. (proper-iff k s b at, refl, λ _. (fresh-iff k s b at, refl, λ _. (room-iff k b, refl, λ _. tt))),
+            (refl, refl),
+            λ _. (proper-iff k s b at, (refl, refl), λ _. (fresh-iff k s b at, (refl, refl), λ _. (room-iff k b, (refl, refl), λ _. tt))),
           ),
         ),
       ),
@@ -247,10 +238,10 @@ nothing-in-none (good-field l h rest) = omega arith
 -- Reading is refused under x exactly for a bad book.
 pub bad-book : (s : List ℕ) (x : Refusal) → (reading s ≡ refused x) ↔ BadBook s x
 unfolding reading
-bad-book [] x = (λ e. let same : numbered 1 0 ≡ x = cc in inl (refl, sym same), from)
+bad-book [] x = (λ e. let same : numbered 1 0 ≡ x = cc in inl (refl, subst (λ (y : Refusal). HasNumber y 1 0) same (refl, refl)), from)
   where
     from : BadBook [] x → refused (numbered 1 0) ≡ refused x
-    from (inl (_, is)) = ap refused (sym is)
+    from (inl (_, has)) = let same : numbered 1 0 ≡ x = one-refusal {n = 1} {at = 0} (refl, refl) has in ap refused same
     from (inr f) = absurd (nothing-in-none f)
 bad-book (c ∷ s) x = (λ e. inr (to-bad (c ∷ s) x (length (c ∷ s)) blank 0 e), from)
   where
@@ -260,10 +251,10 @@ bad-book (c ∷ s) x = (λ e. inr (to-bad (c ∷ s) x (length (c ∷ s)) blank 0
 
 -- ---- a list
 item-decides : (i : ℕ) (b : Book) (a : Arc) → Decides i (arcTests b i a) (itemConditions b a)
-item-decides i b a = (arc-iff (b .count) a, refl, λ _. (not-iff (given (b .arcs) (a .tail) (a .head)) (new-iff (b .arcs) a), refl, λ _. tt))
+item-decides i b a = (arc-iff (b .count) a, (refl, refl), λ _. (not-iff (given (b .arcs) (a .tail) (a .head)) (new-iff (b .arcs) a), (refl, refl), λ _. tt))
 
 count-decides : (n : ℕ) → Decides 0 (counting n) (countConditions n)
-count-decides n = (and-iff (leb 1 n) (leb n mostVertices) (le-iff 1 n) (le-iff n mostVertices), refl, λ _. tt)
+count-decides n = (and-iff (leb 1 n) (leb n mostVertices) (le-iff 1 n) (le-iff n mostVertices), (refl, refl), λ _. tt)
 
 module _ (x : Refusal) where
   to-bad-item : (i : ℕ) (xs : List Item) (b : Book) → items i xs b ≡ refused x → BadItem i xs b x

@@ -21,6 +21,7 @@ use Rattle.trial_rules.specs.Claim.{claim, refused-as-if-not-made}
 use Rattle.trial_rules.specs.Oracle.{OracleSet, oracle}
 use Rattle.trials.specs.declared.Begun.{Begun}
 use Rattle.trials.specs.Operations.{Leaves, answering, firstState, beginning}
+use Rattle.trials.specs.Replanning.{chosen-planner}
 use Rattle.series.specs.Reports.{reportsOf}
 use Rattle.series.specs.Making.{replaying}
 use Rattle.series.specs.Whole.{leavesOf, reportsOn, opened, begin-leaves, reports-leave, replay-leaves}
@@ -62,6 +63,7 @@ module _ (β : AcceptedBegin) where
       record {
         left = leave ρs;
         answered = sym (ap (λ l. acceptedOn s l ρs) opening-is ∙ accepted-are s b read flags start end paths walk allowed (begun t) in-order ρs);
+        planner = chosen-planner b well;
         ruled = refl;
         accepted-ruled = refl;
         refused-kept = refused-kept s;

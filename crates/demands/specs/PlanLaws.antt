@@ -22,7 +22,7 @@ use Rattle.rules.specs.declared.Bound.{Bound}
 use Rattle.rules.specs.Binding.{known}
 use Rattle.rules.specs.Area.{spelled}
 use Rattle.rules.specs.Operations.{boundAs, binding, areaAfter}
-use Rattle.rules.specs.Laws.{known→Applied, Applied→known, bind-accepted}
+use Rattle.rules.specs.Laws.{bind-accepted}
 use Rattle.routes.specs.Plan.{PlannedWalk}
 use Rattle.planner.specs.declared.Outcome.{Outcome}
 use Rattle.planner.specs.Planning.{planTests, Planned, PlanningOf, Planning}
@@ -30,21 +30,19 @@ use Rattle.planner.specs.RuleSets.{planned-same}
 use Rattle.listed.specs.SameBook.{from-book}
 use Rattle.trial_rules.specs.Plans.{plan-best}
 use Rattle.trials.specs.Replanning.{chosen-planner, known-set}
-use Rattle.demands.specs.Marks.{binds-when, needs-nothing}
+use Rattle.demands.specs.Marks.{Clear, needs-nothing, known→sheet, sheet→known}
 use Rattle.demands.specs.Conditions.{zero-one}
 use Rattle.demands.specs.Asked.{conditions}
-use Rattle.demands.specs.Demands.{Clear, Allowed, Shortest, Plans, BatchPlans}
+use Rattle.demands.specs.Demands.{Allowed, Shortest, Plans, BatchPlans}
 use Rattle.demands.specs.AnswerLaws.{binds, binds-valid, answers}
 
 -- ---- the known paths are those of the sheets that bind
 module _ (b : Book) (flags : ℕ) where
   avoids→clear : (w : List ℕ) → Avoids (known flags (b .sets)) w → Clear b flags w
-  avoids→clear w a set m binds p i = a p (Applied→known flags (b .sets) (record { set = set; listed = m; applying = binds-when set flags .1 binds; path = i }))
+  avoids→clear w a r o = a r (sheet→known b flags o)
 
   clear→avoids : (w : List ℕ) → Clear b flags w → Avoids (known flags (b .sets)) w
-  clear→avoids w c p m =
-      let a = known→Applied flags (b .sets) m in
-      c (a .set) (a .listed) (binds-when (a .set) flags .0 (a .applying)) p (a .path)
+  clear→avoids w c r m = c r (known→sheet b flags m)
 
   module _ (start end : ℕ) (w : List ℕ) where
     pub feasible→allowed : Feasible (graph b) (known flags (b .sets)) start end w → Allowed b flags start end w

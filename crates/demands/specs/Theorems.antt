@@ -1,5 +1,5 @@
 -- The three demands hold.
-use mathlib.Core.Path.{_≡_}
+use Rattle.book_bytes.specs.BytesLaws.{bytes-below}
 use Rattle.book_bytes.specs.Longest.{fullBook, full-keeps, full-length}
 use Rattle.book_bytes.specs.LongBook.{longest-book}
 use Rattle.book_bytes.specs.RoundTrip.{every-book-read, round-trip, refused-otherwise, same-book}
@@ -14,6 +14,7 @@ pub demand-1 : Demand1
 demand-1 =
     record {
       read-exactly = round-trip;
+      own-bytes = bytes-below;
       every-book = every-book-read;
       one-string = same-book;
       no-longer = longest-book;

@@ -7,3 +7,4 @@ pub mod AreaLaws
 pub mod BindingLaws
 pub mod ValidLaws
 pub mod Laws
+pub mod Numbers
