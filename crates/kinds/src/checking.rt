@@ -26,12 +26,13 @@ pub fn check_case(input: &[u8]) {
     let bytes = &input[end..];
     let mut area = [0u8; AREA];
     match rules::bind(bytes, flags, &mut area) {
-        Bound::Known(count) => print(walk_check::check(bytes, &area, count, walk)),
+        Bound::Known(count) => checked(walk_check::check(bytes, &area, count, walk)),
         Bound::Refused(r) => refusal(r),
     }
 }
 
-fn print(answer: Checked) {
+// Prints the answer of a check.
+pub fn checked(answer: Checked) {
     match answer {
         Checked::Clear => text(b"CLEAR\n"),
         Checked::Occurs(place, length) => {

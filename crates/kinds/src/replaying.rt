@@ -76,7 +76,7 @@ fn step(
             begun
         }
         Begun::Record(first) => {
-            print(first, walk);
+            write_record(first, walk);
             Begun::Record(make_all(bytes, first, reports, paths, walk))
         }
     }
@@ -108,12 +108,22 @@ fn make_all(
 // Prints what a report leaves.
 fn print_reported(reported: Reported, walk: &[u8]) {
     match reported {
-        Reported::Accepted(rec) => print(rec, walk),
+        Reported::Accepted(rec) => write_record(rec, walk),
         Reported::Refused(r, _) => refusal(r),
     }
 }
 
-fn print(rec: Record, walk: &[u8]) {
+// The line of a record, and in stages 0 and 1 that of its walk.
+pub fn write_record(rec: Record, walk: &[u8]) {
+    write_fields(rec);
+    if rec.stage != 2 {
+        let length = rec.length;
+        write_walk(walk, length);
+    }
+}
+
+// The line of a record, whatever it says.
+pub fn write_fields(rec: Record) {
     text(b"STAGE");
     number(rec.stage);
     text(b" START");
@@ -133,10 +143,6 @@ fn print(rec: Record, walk: &[u8]) {
     text(b" LENGTH");
     number(rec.length);
     text(b"\n");
-    if rec.stage != 2 {
-        let length = rec.length;
-        write_walk(walk, length);
-    }
 }
 
 // A line more where two answers or a byte of their areas differ.

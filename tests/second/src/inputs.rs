@@ -1,5 +1,6 @@
 //! Random inputs of the programs: a kind, a seed and an index give one case.
 
+use crate::any_inputs;
 use crate::binding::ENTRY;
 use crate::book::{self, Book, Run};
 use crate::changeovers::Changeover;
@@ -15,12 +16,13 @@ use crate::trials::STANDS;
 
 /// The case of a kind with this seed and index.
 pub fn case(kind: Kind, seed: u64, index: u64) -> Vec<u8> {
-    let random = &mut Random::new(&[kind as u64, seed, index]);
+    let random = &mut Random::new(&[kind.word(), seed, index]);
     match kind {
         Kind::ReadBook => read_book_case(random),
         Kind::CheckLineup => check_lineup_case(random),
         Kind::Replay => replay_case(random),
         Kind::Plan => plan_case(random),
+        Kind::Any(call) => any_inputs::case(random, call),
     }
 }
 
@@ -154,7 +156,7 @@ pub fn check_lineup_input(marks: u16, lineup: &[u8], book: &[u8]) -> Vec<u8> {
 }
 
 /// A line-up of the book, now and then spoilt or of a length near the limits.
-fn any_lineup(random: &mut Random, book: &Book) -> Vec<u8> {
+pub fn any_lineup(random: &mut Random, book: &Book) -> Vec<u8> {
     let length = match random.below(60) {
         0 => 0,
         1 => LINEUP_AREA,

@@ -1,5 +1,6 @@
 //! The kinds of cases, by the names that commands use and by the bytes of frames.
 
+use crate::calls::{self, Call};
 use crate::programs;
 
 #[derive(Clone, Copy, Debug, PartialEq, Eq)]
@@ -8,9 +9,22 @@ pub enum Kind {
     CheckLineup,
     Replay,
     Plan,
+    /// One call with any record, and areas of any length and content.
+    Any(Call),
 }
 
-pub const KINDS: [Kind; 4] = [Kind::ReadBook, Kind::CheckLineup, Kind::Replay, Kind::Plan];
+pub const KINDS: [Kind; 10] = [
+    Kind::ReadBook,
+    Kind::CheckLineup,
+    Kind::Replay,
+    Kind::Plan,
+    Kind::Any(Call::Bind),
+    Kind::Any(Call::Check),
+    Kind::Any(Call::Plan),
+    Kind::Any(Call::Begin),
+    Kind::Any(Call::Passed),
+    Kind::Any(Call::Failed),
+];
 
 impl Kind {
     /// The name of the program that takes one case.
@@ -20,7 +34,18 @@ impl Kind {
             Kind::CheckLineup => "check_lineup",
             Kind::Replay => "replay",
             Kind::Plan => "plan",
+            Kind::Any(Call::Bind) => "any_bind",
+            Kind::Any(Call::Check) => "any_check",
+            Kind::Any(Call::Plan) => "any_plan",
+            Kind::Any(Call::Begin) => "any_begin",
+            Kind::Any(Call::Passed) => "any_passed_report",
+            Kind::Any(Call::Failed) => "any_failed_report",
         }
+    }
+
+    /// The word that tells the kinds' random numbers apart.
+    pub fn word(self) -> u64 {
+        KINDS.iter().position(|&kind| kind == self).map_or(u64::MAX, |place| place as u64)
     }
 
     /// The name of a framed stream of such cases.
@@ -35,6 +60,7 @@ impl Kind {
             Kind::CheckLineup => 1,
             Kind::Plan => 2,
             Kind::Replay => 3,
+            Kind::Any(call) => 4 + call as u8,
         }
     }
 
@@ -57,6 +83,7 @@ impl Kind {
             Kind::CheckLineup => programs::check_lineup(case),
             Kind::Replay => programs::replay(case),
             Kind::Plan => programs::plan(case),
+            Kind::Any(call) => calls::run(call, case),
         }
     }
 }

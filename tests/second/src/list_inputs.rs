@@ -39,17 +39,6 @@ pub fn stored(seed: u64) -> Vec<Vec<u8>> {
     cases
 }
 
-/// What stands beside the vectors.
-pub fn note(seed: u64, folder: &str) -> String {
-    format!(
-        "The file stdin here is a framed stream of {count} lists of changeovers (see tests/second/src/lists.rs).\n\
-         stdout is what they print, one after the other.\n\
-         They come from the second planner with seed {seed}; from the repository's top folder:\n\
-         cargo run --release --offline --manifest-path tests/second/Cargo.toml --bin vectors -- lists {seed} {folder}\n",
-        count = stored(seed).len(),
-    )
-}
-
 /// The changeovers of a book as a list, under the runs that bind a batch.
 pub fn list_of(draft: &Draft, marks: u16, start: u8, end: u8) -> List {
     let book = generate::read(draft);

@@ -10,11 +10,13 @@ use second::samples;
 use std::io::{self, Read, Write};
 use std::process::ExitCode;
 
-const USAGE: &str = "usage: second plan|replay|check_lineup|read_book  one case
+const USAGE: &str = "usage: second KIND                     one case
        second frames                   a framed stream of cases
        second plan_lists               a framed stream of lists
        second input NAME SEED          an input for `plan`
        second inputs NAME SEED COUNT   a framed stream of such inputs, of COUNT seeds
+KIND is plan, replay, check_lineup, read_book, any_bind, any_check, any_plan, any_begin,
+any_passed_report or any_failed_report.
 NAME is typical, largest, chain, upward, downward or winding.";
 
 fn main() -> ExitCode {

@@ -12,7 +12,7 @@ use crate::trials::{self, Record};
 pub const MOST_INPUT: usize = 65_536;
 
 /// Input that is shorter than its own fixed part or its lengths say.
-const CUT_SHORT: Refusal = Refusal { number: 1, at: Some(0) };
+pub(crate) const CUT_SHORT: Refusal = Refusal { number: 1, at: Some(0) };
 
 /// 01's program `plan`: marks, start, end, then a book.
 pub fn plan(input: &[u8]) -> String {
@@ -133,10 +133,10 @@ impl<'a> Trials<'a> {
 }
 
 /// What is left of the input.
-struct Input<'a>(&'a [u8]);
+pub(crate) struct Input<'a>(pub(crate) &'a [u8]);
 
 impl<'a> Input<'a> {
-    fn take(&mut self, length: usize) -> Result<&'a [u8], Refusal> {
+    pub(crate) fn take(&mut self, length: usize) -> Result<&'a [u8], Refusal> {
         if self.0.len() < length {
             return Err(CUT_SHORT);
         }
@@ -145,11 +145,11 @@ impl<'a> Input<'a> {
         Ok(taken)
     }
 
-    fn byte(&mut self) -> Result<u8, Refusal> {
+    pub(crate) fn byte(&mut self) -> Result<u8, Refusal> {
         Ok(self.take(1)?[0])
     }
 
-    fn word(&mut self) -> Result<u16, Refusal> {
+    pub(crate) fn word(&mut self) -> Result<u16, Refusal> {
         let bytes = self.take(2)?;
         Ok(u16::from_be_bytes([bytes[0], bytes[1]]))
     }
@@ -157,6 +157,11 @@ impl<'a> Input<'a> {
     fn double_word(&mut self) -> Result<usize, Refusal> {
         let bytes = self.take(4)?;
         Ok(u32::from_be_bytes([bytes[0], bytes[1], bytes[2], bytes[3]]) as usize)
+    }
+
+    /// Eight bytes, high byte first.
+    pub(crate) fn number(&mut self) -> Result<u64, Refusal> {
+        Ok(self.take(8)?.iter().fold(0, |number, &byte| number << 8 | u64::from(byte)))
     }
 
     /// The next report. A report that is cut short, or begins with neither 0

@@ -1,6 +1,7 @@
 //! Cases that are chosen, not drawn: 01's settled sums, every boundary on both
 //! sides, every violation of the order of fields, and the limits of length.
 
+use crate::any_inputs;
 use crate::book::{TAG_CHANGEOVER, TAG_COUNT, TAG_RUN, TAG_SHEET};
 use crate::draft::Draft;
 use crate::generate;
@@ -10,12 +11,13 @@ use crate::random::Random;
 
 /// The chosen cases of a kind; the seed serves those that hold random books.
 pub fn cases(kind: Kind, seed: u64) -> Vec<Vec<u8>> {
-    let random = &mut Random::new(&[kind as u64, seed, u64::MAX]);
+    let random = &mut Random::new(&[kind.word(), seed, u64::MAX]);
     match kind {
         Kind::ReadBook => read_book_cases(random),
         Kind::CheckLineup => check_lineup_cases(random),
         Kind::Replay => replay_cases(random),
         Kind::Plan => plan_cases(random),
+        Kind::Any(call) => any_inputs::chosen(random, call),
     }
 }
 

@@ -32,16 +32,21 @@ pub fn check(found: Option<Found>) -> String {
 
 /// The record; unless none is the answer, also its line-up.
 pub fn record(record: &Record, lineup_area: &[u8]) -> String {
-    let Record { stage, start, end, known, known_at_start, failed, passed, litres, length } =
-        record;
-    let mut text = format!(
-        "STAGE {stage} START {start} END {end} KNOWN {known} AT-START {known_at_start} \
-         FAILED {failed} PASSED {passed} LITRES {litres} LENGTH {length}\n"
-    );
-    if *stage != NONE {
-        text += &grades_line(&lineup_area[..*length as usize]);
+    let mut text = fields(record);
+    if record.stage != NONE {
+        text += &grades_line(&lineup_area[..record.length as usize]);
     }
     text
+}
+
+/// The numbers of a record, whatever they are.
+pub fn fields(record: &Record) -> String {
+    let Record { stage, start, end, known, known_at_start, failed, passed, litres, length } =
+        record;
+    format!(
+        "STAGE {stage} START {start} END {end} KNOWN {known} AT-START {known_at_start} \
+         FAILED {failed} PASSED {passed} LITRES {litres} LENGTH {length}\n"
+    )
 }
 
 /// A book that reads: its counts, its changeovers, its sheets with their runs.

@@ -3,6 +3,8 @@
 use second::frames;
 use second::inputs;
 use second::kinds::{Kind, KINDS};
+use second::list_inputs;
+use second::lists;
 use second::samples;
 use second::vectors;
 use std::fs;
@@ -37,7 +39,7 @@ fn second_answers_one_case_or_a_stream() {
     assert_eq!(text(&run(SECOND, &["plan"], &listing)), answer);
     let stream = [
         frames::join(Kind::Plan, &[listing.clone(), vec![], listing]),
-        frames::framed(&[4]),
+        frames::framed(&[10]),
         frames::framed(&[]),
         frames::frame(Kind::ReadBook, &samples::book_a().bytes()[..4]),
     ]
@@ -75,6 +77,9 @@ fn wrong_words_fail() {
         (COMPARE, &["plan", "5", "1"]),
         (COMPARE, &["plan", "5", "1", "--"]),
         (COMPARE, &["other", "5", "1", "--", SECOND, "plan"]),
+        (COMPARE, &["long_plans", "5", "1", "--", SECOND, "plan"]),
+        (COMPARE, &["plan_list", "5", "1", "--", SECOND, "plan_lists"]),
+        (COMPARE, &["--trickle", "0", "plan", "5", "1", "--", SECOND, "plan"]),
         (VECTORS, &["1"]),
         (VECTORS, &["plan", "/tmp"]),
     ] {
@@ -84,16 +89,25 @@ fn wrong_words_fail() {
 }
 
 #[test]
-fn vectors_writes_its_three_files() {
+fn vectors_writes_three_files_for_each_program() {
     let folder = std::env::temp_dir().join(format!("second-vectors-{}", std::process::id()));
     let name = folder.to_str().unwrap();
     assert!(run(VECTORS, &["4", name], &[]).status.success());
     let stream = vectors::stream(4);
-    assert_eq!(fs::read(folder.join("stdin")).unwrap(), stream);
-    let printed = fs::read_to_string(folder.join("stdout")).unwrap();
-    assert_eq!(printed, frames::run(&stream));
-    let note = fs::read_to_string(folder.join("VECTORS.txt")).unwrap();
-    assert!(note.ends_with(&format!("--bin vectors -- 4 {name}\n")), "{note}");
+    let read = |program: &str, file: &str| fs::read(folder.join(program).join(file)).unwrap();
+    assert_eq!(read("frames", "stdin"), stream);
+    assert_eq!(read("frames", "stdout"), frames::run(&stream).into_bytes());
+    let stream = lists::join(&list_inputs::stored(4));
+    assert_eq!(read("plan_list", "stdin"), stream);
+    assert_eq!(read("plan_list", "stdout"), lists::run(&stream).into_bytes());
+    for kind in [Kind::Plan, Kind::CheckLineup, Kind::Replay] {
+        let case = read(kind.name(), "stdin");
+        assert_eq!(read(kind.name(), "stdout"), kind.run(&case).into_bytes());
+    }
+    for program in ["frames", "plan_list", "plan", "check_lineup", "replay"] {
+        let note = String::from_utf8(read(program, "VECTORS.txt")).unwrap();
+        assert!(note.contains(&format!("--bin vectors -- 4 {name}\n")), "{note}");
+    }
     fs::remove_dir_all(folder).unwrap();
 }
 
@@ -101,11 +115,26 @@ fn vectors_writes_its_three_files() {
 fn compare_finds_no_difference_from_itself() {
     for kind in KINDS {
         let stream = kind.stream_name();
-        for (name, count, word) in [(kind.name(), "12", kind.name()), (&stream, "600", "frames")] {
+        for (name, count, word) in [(kind.name(), "12", kind.name()), (&stream, "300", "frames")] {
             let output = run(COMPARE, &[name, count, "2", "--", SECOND, word], &[]);
             assert!(output.status.success());
             assert_eq!(text(&output), format!("{name}: {count} inputs of seed 2, 0 different\n"));
         }
+    }
+}
+
+/// Inputs at the limits of length, and inputs that come a few bytes at a time.
+#[test]
+fn compare_takes_long_inputs_and_lets_them_trickle() {
+    for (words, word) in [
+        (&["largest_plans", "5"][..], "frames"),
+        (&["long_plan", "12"], "plan"),
+        (&["--trickle", "300", "long_plan", "6"], "plan"),
+        (&["--limit", "60", "--trickle", "1", "check_lineup", "3"], "check_lineup"),
+    ] {
+        let words = [words, &["2", "--", SECOND, word]].concat();
+        let output = run(COMPARE, &words, &[]);
+        assert!(output.status.success(), "{words:?}: {}", text(&output));
     }
 }
 

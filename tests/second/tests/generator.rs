@@ -3,13 +3,16 @@
 
 use second::binding;
 use second::book;
+use second::calls::Call;
 use second::exhaustive;
 use second::frames;
 use second::generate;
 use second::inputs;
 use second::kinds::{Kind, KINDS};
+use second::large;
 use second::random::Random;
 use second::samples;
+use second::sources::Source;
 use second::text;
 use second::vectors;
 use std::collections::BTreeSet;
@@ -85,6 +88,37 @@ fn vectors_are_complete() {
     let replay =
         ["STAGE 0", "STAGE 1", "STAGE 2", "REFUSED 7", "REFUSED 11", "REFUSED 12", "REFUSED 13"];
     check(Kind::Replay, 320, 1_000_000, &with(&replay));
+    let any = |call, answers: &[&str]| check(Kind::Any(call), 100, 500_000, answers);
+    any(Call::Bind, &["KNOWN 2", "RUNS ", "REFUSED 1 ", "REFUSED 8"]);
+    any(Call::Check, &["CLEAR", "RUN AT ", "REFUSED 1 ", "REFUSED 8", "REFUSED 9", "REFUSED 10"]);
+    let planned = ["LITRES ", "NONE", "LINEUP ", "REFUSED 1 ", "REFUSED 7", "REFUSED 8"];
+    any(Call::Plan, &[&planned[..], &["REFUSED 9"]].concat());
+    any(Call::Begin, &["STAGE 0", "STAGE 2", "RUNS ", "LINEUP ", "REFUSED 7", "REFUSED 8"]);
+    let refused = ["REFUSED 1 ", "REFUSED 8", "REFUSED 9", "REFUSED 11"];
+    any(Call::Passed, &[&refused[..], &["STAGE 1"]].concat());
+    any(Call::Failed, &[&refused[..], &["STAGE 0", "RUNS ", "LINEUP ", "REFUSED 12"]].concat());
+}
+
+/// The largest books have the greatest length, and their plans are no mere
+/// changeover; the long inputs have the lengths that count.
+#[test]
+fn inputs_at_the_limits_have_their_lengths() {
+    let mut changes = Vec::new();
+    for index in 0..20 {
+        let input = Source::LargestPlans.case(1, index);
+        assert_eq!(input.len(), large::LONGEST_INPUT);
+        let book = book::read(&input[4..]).unwrap();
+        assert_eq!((book.grades(), book.changeovers.count(), book.runs()), (64, 4_032, 256));
+        let printed = Kind::Plan.run(&input);
+        assert!(printed.starts_with("LITRES "), "{printed}");
+        changes.push(printed.lines().nth(1).unwrap().split(' ').count());
+    }
+    assert!(changes.iter().filter(|&&grades| grades > 4).count() > 5, "{changes:?}");
+    let lengths: Vec<usize> = (0..6).map(|i| Source::LongPlans.case(1, i).len()).collect();
+    for length in [39_192, 65_535, 65_536, 65_537, 131_072] {
+        assert!(lengths.contains(&length), "{lengths:?}");
+    }
+    assert!(Kind::Plan.run(&Source::LongPlans.case(1, 0)).starts_with("LITRES "));
 }
 
 /// 01's settled sums are among the vectors with the paper's answers.

@@ -9,13 +9,11 @@ use second::programs::{self, MOST_INPUT};
 use second::random::Random;
 use second::samples;
 use std::collections::BTreeSet;
-use std::fs;
 use std::io::Write;
 use std::process::{Command, Output, Stdio};
 
 const SECOND: &str = env!("CARGO_BIN_EXE_second");
 const COMPARE: &str = env!("CARGO_BIN_EXE_compare");
-const VECTORS: &str = env!("CARGO_BIN_EXE_vectors");
 
 fn run(program: &str, words: &[&str], input: &[u8]) -> Output {
     let mut child = Command::new(program)
@@ -122,29 +120,10 @@ fn random_cases_have_every_answer() {
     assert!(cases.iter().filter(|case| items(case) > 4_100).count() >= 3);
 }
 
-/// A stored file that was changed by hand, or is older than the generator.
-#[test]
-fn the_stored_vectors_are_what_is_written_now() {
-    let folder = concat!(env!("CARGO_MANIFEST_DIR"), "/../../crates/plan_list/");
-    let file = |name: &str| fs::read(folder.to_string() + name).unwrap();
-    let stdin = lists::join(&list_inputs::stored(1));
-    assert!(file("stdout") == lists::run(&stdin).into_bytes());
-    assert!(file("stdin") == stdin);
-    assert!(file("VECTORS.txt") == list_inputs::note(1, "crates/plan_list").into_bytes());
-}
-
 #[test]
 fn programs_take_lists() {
     let stored = lists::join(&list_inputs::stored(4));
     assert_eq!(text(&run(SECOND, &["plan_lists"], &stored)), lists::run(&stored));
-    let folder = std::env::temp_dir().join(format!("second-lists-{}", std::process::id()));
-    let name = folder.to_str().unwrap();
-    assert!(run(VECTORS, &["lists", "4", name], &[]).status.success());
-    assert_eq!(fs::read(folder.join("stdin")).unwrap(), stored);
-    assert_eq!(fs::read_to_string(folder.join("stdout")).unwrap(), lists::run(&stored));
-    let note = fs::read_to_string(folder.join("VECTORS.txt")).unwrap();
-    assert!(note.ends_with(&format!("--bin vectors -- lists 4 {name}\n")), "{note}");
-    fs::remove_dir_all(folder).unwrap();
     let compare =
         |command: &str| run(COMPARE, &["plan_lists", "600", "2", "--", SECOND, command], &[]);
     let output = compare("plan_lists");

@@ -1,24 +1,23 @@
 //! `compare KIND N SEED -- COMMAND WORDS...` runs a program on N random inputs
 //! of a seed and reports each difference from this package's answers. A run
 //! that takes too long is ended, and ends the comparison.
+//! With `--trickle BYTES` the input comes a few bytes at a time.
 //! `compare --show KIND SEED INDEX` prints one of these inputs.
 
-use second::frames;
-use second::inputs;
-use second::kinds::Kind;
-use second::list_inputs;
-use second::lists;
 use second::programs::MOST_INPUT;
+use second::sources::Source;
 use second::vectors;
 use std::io::{self, Read, Write};
 use std::process::{Child, Command, ExitCode, ExitStatus, Stdio};
 use std::thread::{self, JoinHandle};
 use std::time::{Duration, Instant};
 
-const USAGE: &str = "usage: compare [--limit SECONDS] KIND N SEED -- COMMAND WORDS...
+const USAGE: &str =
+    "usage: compare [--limit SECONDS] [--trickle BYTES] KIND N SEED -- COMMAND WORDS...
        compare --show KIND SEED INDEX
-KIND is plan, replay, check_lineup or read_book: one process for each input;
-or plans, replays, check_lineups or read_books: framed streams of inputs;
+KIND is plan, replay, check_lineup, read_book, any_bind, any_check, any_plan, any_begin,
+any_passed_report, any_failed_report, largest_plan or long_plan: one process for each input;
+or one of these with an s behind it, except long_plan: framed streams of inputs;
 or plan_lists: framed streams of lists.";
 
 /// How many cases a framed stream holds at most.
@@ -26,6 +25,9 @@ const BATCH: u64 = 250;
 
 /// The seconds that a run may take, if no limit is given.
 const LIMIT: u64 = 120;
+
+/// The time between two pieces of an input that trickles.
+const PAUSE: Duration = Duration::from_micros(100);
 
 /// How much of an output a report shows.
 const SHOWN: usize = 300;
@@ -46,11 +48,8 @@ fn main() -> ExitCode {
 }
 
 fn compare(task: &Task) -> ExitCode {
-    let different = if task.inputs.framed() {
-        task.compare_streams()
-    } else {
-        task.compare_cases(0, task.count)
-    };
+    let different =
+        if task.framed { task.compare_streams() } else { task.compare_cases(0, task.count) };
     println!("{}: {} inputs of seed {}, {different} different", task.name, task.count, task.seed);
     if different == 0 {
         ExitCode::SUCCESS
@@ -63,69 +62,25 @@ fn compare(task: &Task) -> ExitCode {
 fn show(words: &[&str]) -> Option<ExitCode> {
     match *words {
         ["--show", kind, seed, index] => {
-            let inputs = Inputs::named(kind)?;
-            let case = inputs.case(seed.parse().ok()?, index.parse().ok()?);
-            let written = io::stdout().write_all(&inputs.join(&[case])).is_ok();
+            let (source, framed) = Source::named(kind)?;
+            let case = source.case(seed.parse().ok()?, index.parse().ok()?);
+            let input = if framed { source.join(&[case]) } else { case };
+            let written = io::stdout().write_all(&input).is_ok();
             Some(if written { ExitCode::SUCCESS } else { ExitCode::FAILURE })
         }
         _ => None,
     }
 }
 
-/// What a program is given.
-#[derive(Clone, Copy)]
-enum Inputs {
-    /// A case of a kind, by itself.
-    Single(Kind),
-    /// Frames with cases of a kind.
-    Framed(Kind),
-    /// Frames with lists of changeovers.
-    Lists,
-}
-
-impl Inputs {
-    fn named(name: &str) -> Option<Inputs> {
-        let single = Kind::named(name).map(Inputs::Single);
-        let framed = || Kind::stream_named(name).map(Inputs::Framed);
-        single.or_else(framed).or_else(|| (name == "plan_lists").then_some(Inputs::Lists))
-    }
-
-    fn case(self, seed: u64, index: u64) -> Vec<u8> {
-        match self {
-            Inputs::Single(kind) | Inputs::Framed(kind) => inputs::case(kind, seed, index),
-            Inputs::Lists => list_inputs::case(seed, index),
-        }
-    }
-
-    /// What a program reads for these cases; a single one by itself.
-    fn join(self, cases: &[Vec<u8>]) -> Vec<u8> {
-        match self {
-            Inputs::Single(_) => cases.concat(),
-            Inputs::Framed(kind) => frames::join(kind, cases),
-            Inputs::Lists => lists::join(cases),
-        }
-    }
-
-    /// What it is to print for that.
-    fn answer(self, input: &[u8]) -> String {
-        match self {
-            Inputs::Single(kind) => kind.run(input),
-            Inputs::Framed(_) => frames::run(input),
-            Inputs::Lists => lists::run(input),
-        }
-    }
-
-    fn framed(self) -> bool {
-        !matches!(self, Inputs::Single(_))
-    }
-}
-
 struct Task<'a> {
     name: &'a str,
-    inputs: Inputs,
+    source: Source,
+    framed: bool,
     count: u64,
     seed: u64,
     limit: Duration,
+    /// So many bytes of the input at a time; none if all at once.
+    trickle: Option<usize>,
     command: &'a [&'a str],
 }
 
@@ -141,12 +96,18 @@ impl<'a> Task<'a> {
             ["--limit", seconds, rest @ ..] => (seconds.parse().ok()?, rest),
             _ => (LIMIT, words),
         };
+        let (trickle, words) = match words {
+            ["--trickle", bytes, rest @ ..] => {
+                (Some(bytes.parse().ok().filter(|&bytes| bytes > 0)?), rest)
+            }
+            _ => (None, words),
+        };
         match words {
             [name, count, seed, "--", command @ ..] if !command.is_empty() => {
-                let inputs = Inputs::named(name)?;
+                let (source, framed) = Source::named(name)?;
                 let (count, seed) = (count.parse().ok()?, seed.parse().ok()?);
                 let limit = Duration::from_secs(limit);
-                Some(Task { name, inputs, count, seed, limit, command })
+                Some(Task { name, source, framed, count, seed, limit, trickle, command })
             }
             _ => None,
         }
@@ -169,11 +130,13 @@ impl<'a> Task<'a> {
     }
 
     fn case_difference(&self, index: u64) -> Option<Difference> {
-        let case = self.inputs.case(self.seed, index);
-        if self.inputs.framed() && case.len() > MOST_INPUT {
+        let case = self.source.case(self.seed, index);
+        if self.framed && case.len() > MOST_INPUT {
             return None;
         }
-        self.difference(&[case])
+        let expected = self.source.answer(&case);
+        let input = if self.framed { self.source.join(&[case]) } else { case };
+        self.difference(&input, &expected)
     }
 
     /// Compares whole streams; one that differs is gone through case by case.
@@ -200,15 +163,15 @@ impl<'a> Task<'a> {
     }
 
     fn stream_difference(&self, from: u64, to: u64) -> Option<Difference> {
-        let cases = (from..to).map(|index| self.inputs.case(self.seed, index)).collect();
-        self.difference(&vectors::fit_for_stream(cases))
+        let cases: Vec<Vec<u8>> =
+            (from..to).map(|index| self.source.case(self.seed, index)).collect();
+        let stream = self.source.join(&vectors::fit_for_stream(cases));
+        self.difference(&stream, &self.source.answers(&stream))
     }
 
-    /// What is wrong with the command's answer to these cases, if anything.
-    fn difference(&self, cases: &[Vec<u8>]) -> Option<Difference> {
-        let input = &self.inputs.join(cases);
-        let expected = &self.inputs.answer(input);
-        let text = match run(self.command, input, self.limit) {
+    /// What is wrong with the command's answer to an input, if anything.
+    fn difference(&self, input: &[u8], expected: &str) -> Option<Difference> {
+        let text = match self.run(input) {
             Ok(Run::Ended(status, _)) if !status.success() => format!("ended with {status}"),
             Ok(Run::Ended(_, output)) if output == expected.as_bytes() => return None,
             Ok(Run::Ended(_, output)) => {
@@ -222,6 +185,24 @@ impl<'a> Task<'a> {
             Err(error) => format!("cannot run {}: {error}", self.command[0]),
         };
         Some(Difference { text, hangs: false })
+    }
+
+    fn run(&self, input: &[u8]) -> io::Result<Run> {
+        let mut child = Command::new(self.command[0])
+            .args(&self.command[1..])
+            .stdin(Stdio::piped())
+            .stdout(Stdio::piped())
+            .stderr(Stdio::null())
+            .spawn()?;
+        feed(&mut child, input.to_vec(), self.trickle);
+        let output = drain(&mut child);
+        match wait(&mut child, self.limit)? {
+            None => Ok(Run::Hangs),
+            Some(status) => {
+                let output = output.and_then(|reader| reader.join().ok()).unwrap_or_default();
+                Ok(Run::Ended(status, output))
+            }
+        }
     }
 }
 
@@ -247,30 +228,22 @@ enum Run {
     Hangs,
 }
 
-fn run(command: &[&str], input: &[u8], limit: Duration) -> io::Result<Run> {
-    let mut child = Command::new(command[0])
-        .args(&command[1..])
-        .stdin(Stdio::piped())
-        .stdout(Stdio::piped())
-        .stderr(Stdio::null())
-        .spawn()?;
-    feed(&mut child, input.to_vec());
-    let output = drain(&mut child);
-    match wait(&mut child, limit)? {
-        None => Ok(Run::Hangs),
-        Some(status) => {
-            let output = output.and_then(|reader| reader.join().ok()).unwrap_or_default();
-            Ok(Run::Ended(status, output))
-        }
-    }
-}
-
 /// Writes the input beside the reading of the output, so that neither waits
 /// for the other. A child that closes its input early is not at fault.
-fn feed(child: &mut Child, input: Vec<u8>) {
+fn feed(child: &mut Child, input: Vec<u8>, trickle: Option<usize>) {
     if let Some(mut stdin) = child.stdin.take() {
-        thread::spawn(move || {
-            let _ = stdin.write_all(&input);
+        thread::spawn(move || match trickle {
+            None => {
+                let _ = stdin.write_all(&input);
+            }
+            Some(bytes) => {
+                for piece in input.chunks(bytes) {
+                    if stdin.write_all(piece).is_err() {
+                        break;
+                    }
+                    thread::sleep(PAUSE);
+                }
+            }
         });
     }
 }

@@ -21,8 +21,8 @@ refusal-requires c κs = search needs
 enum-known-begun-2 : tie.Need-enum-known-begun-2
 enum-known-begun-2 c = search needs
 
-print-requires : tie.Need-print-requires
-print-requires c κs = search needs
+write-record-requires : tie.Need-write-record-requires
+write-record-requires c κs = search needs
 
 make-all-requires : tie.Need-make-all-requires
 make-all-requires c κs = search needs
@@ -62,7 +62,7 @@ step-spec =
     enum-known-begun
     refusal-requires
     enum-known-begun-2
-    print-requires
+    write-record-requires
     make-all-requires
     same-length
     same-length-2

@@ -1,0 +1,51 @@
+// Numbers and a record from bytes, high byte first: what a test program's case begins with.
+ghost use mathlib.Core.Path.{_≡_};
+ghost use lib.ListN.{length};
+ghost use Prim.Native.Nat.{_+_, _≤_, _<_};
+ghost use Rattle.record_bytes.specs.Numbers.{wordAt, fourAt, eightAt, recordAt};
+use lists::wide;
+use trial_record::Record;
+
+// Two bytes as a number.
+pub fn word(s: &[u8], at: usize) -> usize
+    requires { ⌜ at + 2 ≤ length (now s) ⌝ }
+    ensures { λ r. ⌜ r ≡ wordAt (now (s .entry)) at ⌝ }
+    ensures { λ r. ⌜ r < 65536 ⌝ }
+{
+    wide(s[at]) * 256 + wide(s[at + 1])
+}
+
+// Four bytes.
+fn four(s: &[u8], at: usize) -> usize
+    requires { ⌜ at + 4 ≤ length (now s) ⌝ }
+    ensures { λ r. ⌜ r ≡ fourAt (now (s .entry)) at ⌝ }
+    ensures { λ r. ⌜ r < 4294967296 ⌝ }
+{
+    word(s, at) * 65_536 + word(s, at + 2)
+}
+
+// Eight bytes.
+fn eight(s: &[u8], at: usize) -> usize
+    requires { ⌜ at + 8 ≤ length (now s) ⌝ }
+    ensures { λ r. ⌜ r ≡ eightAt (now (s .entry)) at ⌝ }
+{
+    four(s, at) * 4_294_967_296 + four(s, at + 4)
+}
+
+// The record of the first 58 bytes: its fields in their order, start and end in one byte each, the others in eight.
+pub fn record_of(s: &[u8]) -> Record
+    requires { ⌜ 58 ≤ length (now s) ⌝ }
+    ensures { λ r. ⌜ r ≡ recordAt (now (s .entry)) ⌝ }
+{
+    Record {
+        stage: eight(s, 0),
+        start: s[8],
+        end: s[9],
+        known: eight(s, 10),
+        first: eight(s, 18),
+        failed: eight(s, 26),
+        passed: eight(s, 34),
+        litres: eight(s, 42) as u64,
+        length: eight(s, 50),
+    }
+}
