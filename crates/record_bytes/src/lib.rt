@@ -2,7 +2,7 @@
 ghost use mathlib.Core.Path.{_≡_};
 ghost use lib.ListN.{length};
 ghost use Prim.Native.Nat.{_+_, _≤_, _<_};
-ghost use Rattle.record_bytes.specs.Numbers.{wordAt, fourAt, eightAt, recordAt};
+ghost use Rattle.record_bytes.specs.Numbers.{wordAt, eightAt, recordAt};
 use lists::wide;
 use trial_record::Record;
 
@@ -15,21 +15,13 @@ pub fn word(s: &[u8], at: usize) -> usize
     wide(s[at]) * 256 + wide(s[at + 1])
 }
 
-// Four bytes.
-fn four(s: &[u8], at: usize) -> usize
-    requires { ⌜ at + 4 ≤ length (now s) ⌝ }
-    ensures { λ r. ⌜ r ≡ fourAt (now (s .entry)) at ⌝ }
-    ensures { λ r. ⌜ r < 4294967296 ⌝ }
-{
-    word(s, at) * 65_536 + word(s, at + 2)
-}
-
 // Eight bytes.
 fn eight(s: &[u8], at: usize) -> usize
     requires { ⌜ at + 8 ≤ length (now s) ⌝ }
     ensures { λ r. ⌜ r ≡ eightAt (now (s .entry)) at ⌝ }
 {
-    four(s, at) * 4_294_967_296 + four(s, at + 4)
+    let high = word(s, at) * 65_536 + word(s, at + 2);
+    (high * 65_536 + word(s, at + 4)) * 65_536 + word(s, at + 6)
 }
 
 // The record of the first 58 bytes: its fields in their order, start and end in one byte each, the others in eight.
