@@ -3,7 +3,7 @@ ghost use mathlib.Core.Path.{_≡_};
 ghost use lib.ListN.{length};
 ghost use Prim.Native.Nat.{_+_, _≤_, _<_};
 ghost use Rattle.record_bytes.specs.Numbers.{wordAt, eightAt, recordAt};
-use lists::wide;
+use lists::u16_from;
 use trial_record::Record;
 
 // Two bytes as a number.
@@ -12,7 +12,7 @@ pub fn word(s: &[u8], at: usize) -> usize
     ensures { λ r. ⌜ r ≡ wordAt (now (s .entry)) at ⌝ }
     ensures { λ r. ⌜ r < 65536 ⌝ }
 {
-    wide(s[at]) * 256 + wide(s[at + 1])
+    u16_from(s[at], s[at + 1]) as usize
 }
 
 // Eight bytes.

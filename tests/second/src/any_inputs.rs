@@ -1,7 +1,7 @@
 //! Random cases of single calls: most are good but for one fault, some are
 //! garbage.
 
-use crate::binding::{self, ENTRY, RUNS_AREA};
+use crate::binding::{self, ENTRY, MOST_KNOWN, RUNS_AREA};
 use crate::book::{self, Book, Run};
 use crate::calls::{Call, Case, MOST_AREA};
 use crate::changeovers::Changeover;
@@ -93,6 +93,9 @@ fn after(random: &mut Random, mut trials: Trials, marks: u16, call: Call) -> Cas
             stand_another(random, &mut case, &book);
         }
         if random.chance(6) {
+            fill_known(random, &mut case, &book);
+        }
+        if random.chance(6) {
             case.record = Record { stage: PASSED, passed: 1, ..case.record };
         }
     }
@@ -101,11 +104,36 @@ fn after(random: &mut Random, mut trials: Trials, marks: u16, call: Call) -> Cas
     case
 }
 
+/// As many known runs as there may be, none in the standing line-up, if the book
+/// has grades for them.
+fn fill_known(random: &mut Random, case: &mut Case, book: &Book) {
+    if book.grades() < 6 {
+        return;
+    }
+    let lineup = &case.lineup[..case.record.length as usize];
+    let mut runs = known_runs(case, book);
+    while runs.len() < MOST_KNOWN {
+        let mut run: Run = (0..book.grades() as u8).collect();
+        random.shuffle(&mut run);
+        run.truncate(random.between(3, 6));
+        if !runs.contains(&run) && !check::stands_in(&run, lineup) {
+            runs.push(run);
+        }
+    }
+    binding::write_area(&runs, &mut case.runs);
+    case.record.known = runs.len() as u64;
+    case.record.known_at_start = case.record.known - case.record.failed;
+}
+
+fn known_runs(case: &Case, book: &Book) -> Vec<Run> {
+    let runs = binding::read_area(&case.runs, case.record.known as usize, book.grades());
+    runs.expect("trials left good runs")
+}
+
 /// Another line-up from start to end, clear of the known runs: it need not be
 /// the least.
 fn stand_another(random: &mut Random, case: &mut Case, book: &Book) {
-    let runs = binding::read_area(&case.runs, case.record.known as usize, book.grades());
-    let runs = runs.expect("trials left good runs");
+    let runs = known_runs(case, book);
     let most = random.pick(&[4, 20, 60, LINEUP_AREA]);
     let way = clear_walk(random, book, &runs, case.record.start, most);
     let ends: Vec<usize> = (1..=way.len()).filter(|&n| way[n - 1] == case.record.end).collect();

@@ -1,9 +1,10 @@
 //! Faults of a single call, one at a time: each condition of 01's refusals 7,
 //! 8, 9 and 11 to 13 on what a report takes, on both sides where it has two.
 
-use crate::binding::{ENTRY, MOST_KNOWN, RUNS_AREA};
+use crate::binding::{self, ENTRY, MOST_KNOWN, RUNS_AREA};
 use crate::book::{self, Run};
 use crate::calls::{Call, Case};
+use crate::check;
 use crate::generate;
 use crate::plan::LINEUP_AREA;
 use crate::random::Random;
@@ -274,15 +275,11 @@ pub fn faults() -> Vec<Fault> {
         fault("length 2 to the 64 less 1", Part::Record, Some(9), |_, case| {
             case.record.length = u64::MAX
         }),
-        // The way there and back makes 1,601 grades; there is room for them.
+        fault("a line-up of 1,600 grades", Part::Record, None, |_, case| {
+            stand_there_and_back(case, LINEUP_AREA)
+        }),
         fault("a line-up of 1,601 grades", Part::Record, Some(9), |_, case| {
-            let pair = [case.lineup[0], case.lineup[1]];
-            case.lineup.resize(LINEUP_AREA + 1, 0);
-            for (place, grade) in case.lineup.iter_mut().enumerate() {
-                *grade = pair[place % 2];
-            }
-            case.record.length = LINEUP_AREA as u64 + 1;
-            case.record.end = case.record.start;
+            stand_there_and_back(case, LINEUP_AREA + 1)
         }),
         fault(
             "a grade of the line-up that repeats the one before",
@@ -364,6 +361,38 @@ fn part_of_standing(random: &mut Random, case: &Case) -> Option<Run> {
     } else {
         None
     }
+}
+
+/// So many grades of a way there and back, if the book has one that is clear;
+/// the way back is named. Nothing but their number can be wrong with them.
+fn stand_there_and_back(case: &mut Case, length: usize) {
+    if let Some([there, back]) = clear_way_and_back(case) {
+        let lineup: Vec<u8> = [there, back].into_iter().cycle().take(length).collect();
+        let size = case.lineup.len().max(length);
+        case.lineup.resize(size, 0);
+        case.lineup[..length].copy_from_slice(&lineup);
+        case.list = vec![back, there];
+        case.record.start = there;
+        case.record.end = lineup[length - 1];
+        case.record.litres = litres(case, &lineup).unwrap_or(0);
+        case.record.length = length as u64;
+    }
+}
+
+/// Two grades with changeovers both ways, of which no known run makes one.
+fn clear_way_and_back(case: &Case) -> Option<[u8; 2]> {
+    let book = book::read(&case.book).ok()?;
+    let known = binding::read_area(&case.runs, case.record.known as usize, book.grades()).ok()?;
+    let clear = |pair: &[u8; 2]| {
+        let lineup = [pair[0], pair[1], pair[0]];
+        book.changeovers.lineup_litres(&lineup).is_some()
+            && check::first_run(&lineup, &known).is_none()
+    };
+    book.changeovers.list().into_iter().map(|item| [item.from, item.to]).find(clear)
+}
+
+fn litres(case: &Case, lineup: &[u8]) -> Option<u64> {
+    book::read(&case.book).ok()?.changeovers.lineup_litres(lineup)
 }
 
 /// An entry of a known run, or the first if none is known.

@@ -97,6 +97,13 @@ fn vectors_are_complete() {
     let refused = ["REFUSED 1 ", "REFUSED 8", "REFUSED 9", "REFUSED 11"];
     any(Call::Passed, &[&refused[..], &["STAGE 1"]].concat());
     any(Call::Failed, &[&refused[..], &["STAGE 0", "RUNS ", "LINEUP ", "REFUSED 12"]].concat());
+    let printed: String =
+        (0..400).map(|index| Kind::Any(Call::Failed).run(&any_failed(index))).collect();
+    assert!(printed.contains("REFUSED 13\n"));
+}
+
+fn any_failed(index: u64) -> Vec<u8> {
+    inputs::case(Kind::Any(Call::Failed), 1, index)
 }
 
 /// The largest books have the greatest length, and their plans are no mere

@@ -27,7 +27,7 @@ const BATCH: u64 = 250;
 const LIMIT: u64 = 120;
 
 /// The time between two pieces of an input that trickles.
-const PAUSE: Duration = Duration::from_micros(100);
+const PAUSE: Duration = Duration::from_micros(400);
 
 /// How much of an output a report shows.
 const SHOWN: usize = 300;
