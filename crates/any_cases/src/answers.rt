@@ -21,7 +21,7 @@ pub fn bound(answer: Bound) {
     }
 }
 
-// The walk stands in its area.
+// The walk stands in its area. That it fits is tested, so that the sum is seen not to wrap.
 pub fn planned(answer: Outcome, walk: &[u8]) {
     match answer {
         Outcome::Walk { weight, hops } => {
