@@ -34,7 +34,7 @@ refusalsInOrder = Area ∷ Endpoint ∷ Invalid ∷ NotAWalk ∷ Ended ∷ NotSt
 
 -- The one with a number, as `numberOf` has it: the definitions below and those of the operations name refusals by 01's numbers alone.
 abbrev pub numberedIn : ℕ → List Refusal → Refusal
-numberedIn n [] = Full
+numberedIn n [] = Truncated 0
 numberedIn n (r ∷ rs) = cond (eqb (numberOf r .number) n) r (numberedIn n rs)
 
 abbrev pub numbered : ℕ → ℕ → Refusal

@@ -1,1 +1,2 @@
+-- Meaning: Numbers (a record and its numbers as bytes).
 pub mod Numbers
