@@ -3,6 +3,8 @@
 // A case is a head of 72 bytes (the record, the flags, and the lengths), what is given of the two areas, a list, and the book. All
 // kinds have the same head, and each takes what its operation takes.
 
+ghost use Rattle.any_cases.specs.Making.{Made};
+
 mod answers;
 mod changes;
 
@@ -87,7 +89,9 @@ fn make(
     walk: &mut [u8],
     list: &[u8],
     bytes: &[u8],
-) {
+)
+    ensures { λ _. ⌜ Made call rec flags (now (list .entry)) (now (bytes .entry)) (now (paths .entry)) (now (walk .entry)) (now (paths .exit)) (now (walk .exit)) ⌝ }
+{
     match call {
         Call::Bind => bound(rules::bind(bytes, flags, paths)),
         Call::Check => checked(walk_check::check(bytes, paths, rec.known, list)),

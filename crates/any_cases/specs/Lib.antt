@@ -1,0 +1,2 @@
+-- Meaning: Making (what a single call leaves).
+pub mod Making
