@@ -1,24 +1,20 @@
 -- Demand 1, proved: what is answered where nothing is refused.
-use Prim.Native.Nat.{ℕ, suc, _≤_, _<_}
+use Prim.Native.Nat.{ℕ, _≤_, _<_}
 use mathlib.Core.Path.{_≡_, refl, sym, ap, subst, _∙_}
-use mathlib.Core.List.{List, [], _∷_, _++_}
+use mathlib.Core.List.{List, [], _++_}
 use mathlib.Core.Logic.{inl, inr}
 use mathlib.Core.Option.{Option, none, some, Option·none-ne-some}
 use native.Mathlib.Omega.{arith}
-use borrow.Author.Tests.{leb-true}
-use lib.Dec.{leb}
 use lib.ListN.{length, drop, length-map}
 use Rattle.limits.specs.Limits.{mostVertices, areaSize, longest}
-use Rattle.lists.specs.Test.{and-true}
 use Rattle.walks.specs.Graph.{Graph}
 use Rattle.walks.specs.Walk.{Walk, weightOf, hops}
 use Rattle.states.specs.Chosen.{Decided, chosen, chosen-is}
 use Rattle.book.specs.declared.Refusal.{Refusal}
-use Rattle.book.specs.Refusal.{firstFailure, refusalBy}
+use Rattle.book.specs.Refusal.{refusalBy}
 use Rattle.book.specs.Book.{Book, graph}
-use Rattle.book.specs.RefusalLaws.{none→hold}
 use Rattle.book.specs.BookLaws.{reading-is-book}
-use Rattle.book.specs.Reading.{Reading, accepted, refused, reading, readAs, andThen, outcome, withArc, arcTests, addArc, refusalOf, bookIn}
+use Rattle.book.specs.Reading.{Reading, accepted, reading, readAs, refusalOf, bookIn}
 use Rattle.rules.specs.Binding.{known}
 use Rattle.rules.specs.Area.{blocks, spelled}
 use Rattle.rules.specs.AreaLaws.{length-blocks}
@@ -29,20 +25,17 @@ use Rattle.walk_check.specs.Laws.{sizes}
 use Rattle.walk_check.specs.Checking.{checkedUnless, occurrence, checkTests, checking}
 use Rattle.planner.specs.declared.Outcome.{Outcome}
 use Rattle.planner.specs.Planning.{planTests, Planned, PlanningOf}
-use Rattle.listed.specs.declared.Arc.{Arc as Item}
-use Rattle.listed.specs.Listing.{arcOf, counting, counted, items, listing}
+use Rattle.listed.specs.Listing.{listing}
 use Rattle.listed.specs.SameBook.{arcsOf, listed-book}
 use Rattle.trial_record.specs.declared.Record.{Record}
-use Rattle.trial_rules.specs.Trials.{Report, State, step, run}
-use Rattle.judging.specs.Judging.{stateOf}
+use Rattle.trial_rules.specs.Trials.{State, run}
 use Rattle.trials.specs.declared.Begun.{Begun}
-use Rattle.trials.specs.declared.Reported.{Reported}
-use Rattle.trials.specs.Operations.{begunAs, firstState, reportedAs, reporting}
+use Rattle.trials.specs.Operations.{begunAs, firstState}
 use Rattle.series.specs.Reports.{reportsOf}
 use Rattle.demands.specs.Demands.{ClearOrOccurs, tests-of-begin, WalkOrNone, GetsPlan, Answers}
 use Rattle.demands.specs.RefusalLaws.{check-finds}
-use Rattle.demands.specs.Conditions.{AllHold, zero-one}
-use Rattle.demands.specs.Asked.{planConditions, checkConditions, reportConditions, conditions}
+use Rattle.demands.specs.Conditions.{AllHold}
+use Rattle.demands.specs.Asked.{planConditions, checkConditions, conditions}
 
 -- ---- planning
 -- Where nothing is refused, the best walk or its absence is an answer, and there is no other kind.
@@ -73,34 +66,6 @@ plan-gets x paths count start end walk b read few h =
       each = λ r new p. unrefused-answer g F start end walk r new (subst (λ o. Planned o g F start end walk r new) none-refused p);
     }
 
--- ---- a list that is a book has the count that it was given
-outcome-accepted : (o : Option Refusal) (b c : Book) → outcome o b ≡ accepted c → (o ≡ none) × (c .count ≡ b .count)
-outcome-accepted none b c e = (refl, ap (λ x. bookIn x .count) (sym e))
-outcome-accepted (some x) b c e = zero-one (cc)
-
-then-accepted : (x : Reading) (f : Book → Reading) (c : Book) → andThen x f ≡ accepted c → (b : Book) × (x ≡ accepted b) × (f b ≡ accepted c)
-then-accepted (accepted b) f c e = (b, refl, e)
-then-accepted (refused r) f c e = zero-one (cc)
-
-items-count : (i : ℕ) (xs : List Item) (b c : Book) → items i xs b ≡ accepted c → c .count ≡ b .count
-unfolding items
-items-count i [] b c e = ap (λ x. bookIn x .count) (sym e)
-items-count i (a ∷ xs) b c e =
-    let (b′, is, rest) = then-accepted (withArc b i (arcOf a)) (items (suc i) xs) c e in
-    items-count (suc i) xs b′ c rest ∙ outcome-accepted (firstFailure (arcTests b i (arcOf a))) (addArc b (arcOf a)) b′ is .1
-
-list-count : (n : ℕ) (xs : List Item) (c : Book) → listing n xs ≡ accepted c → (c .count ≡ n) × (n ≤ mostVertices)
-list-count n xs c e =
-    let (b, is, rest) = then-accepted (counted n) (items 0 xs) c e in
-    let (ok, counted-n) = outcome-accepted (firstFailure (counting n)) (record { count = n; arcs = []; sets = [] }) b is in
-    (items-count 0 xs b c rest ∙ counted-n, leb-true n mostVertices (and-true (leb 1 n) (leb n mostVertices) (none→hold (counting n) ok .0) .1))
-
--- Demand 1, of a list that is a book, under every valid runs area.
-pub list-answers : (n : ℕ) (xs : List Item) (c : Book) → listing n xs ≡ accepted c → (paths : List ℕ) (count start end : ℕ) (walk : List ℕ)
-    → AllHold (planConditions paths count start end walk c) → GetsPlan (PlanningOf (listing n xs) paths count start end walk)
-list-answers n xs c read paths count start end walk h =
-    plan-gets (listing n xs) paths count start end walk c read (omega (arith, list-count n xs c read .0, list-count n xs c read .1)) h
-
 -- ---- the other operations
 check-gets : (s area : List ℕ) (count : ℕ) (w : List ℕ) (b : Book) → reading s ≡ accepted b → AllHold (checkConditions area count w b) → ClearOrOccurs (checking s area count w)
 check-gets s area count w b read h =
@@ -110,14 +75,6 @@ check-gets s area count w b read h =
 begun-gets : (o : Option Refusal) (σ : State) (paths walk : List ℕ) → o ≡ none → (r : Record) × (begunAs o σ paths walk .answer ≡ Begun.Record r)
 begun-gets none σ paths walk e = (σ .rec, refl)
 begun-gets (some x) σ paths walk e = absurd (Option·none-ne-some x (sym e))
-
--- A report of which all holds that it asks is accepted, with a record.
-pub report-answers : (s : List ℕ) (b : Book) → reading s ≡ accepted b → (r : Record) (paths walk : List ℕ) (ρ : Report) → AllHold (reportConditions r paths walk ρ b)
-    → (r′ : Record) × (reporting s r paths walk ρ .answer ≡ Reported.Accepted r′)
-report-answers s b read r paths walk ρ h =
-    let none-refused = conditions (reading s) .report r paths walk ρ .accepts .1 (b, read, h) in
-    let σ = step (graph (bookIn (reading s))) (chosen (graph (bookIn (reading s)))) (stateOf r paths walk) ρ in
-    (σ .rec, ap (λ o. reportedAs o σ r paths walk .answer) none-refused)
 
 -- ---- an accepted book
 -- What binding gives is the known paths, and its area is valid.

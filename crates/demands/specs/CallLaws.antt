@@ -19,7 +19,7 @@ use Rattle.book.specs.Book.{Book, WellFormed, graph}
 use Rattle.book.specs.Reading.{accepted, reading, refusalOf, bookIn}
 use Rattle.rules.specs.Binding.{known}
 use Rattle.trial_record.specs.declared.Record.{Record}
-use Rattle.trial_rules.specs.Trials.{Report, passed, failed, State, pathArea, isNamed, hasRoom, oracleTests, refusal, Valid, beginRefusal, unless, step, after, run, accepted as acceptedFrom, EachAccepted, Begin}
+use Rattle.trial_rules.specs.Trials.{Report, passed, failed, State, pathArea, isNamed, hasRoom, oracleTests, refusal, Valid, beginRefusal, unless, step, after, accepted as acceptedFrom, EachAccepted, Begin}
 use Rattle.trial_rules.specs.Lacking.{lacking, together, together-is, lacking-into, lacking-from, lacking-distinct}
 use Rattle.trial_rules.specs.Invariant.{Invariant}
 use Rattle.trial_rules.specs.Oracle.{TrueTo}
@@ -29,8 +29,6 @@ use Rattle.trials.specs.declared.Reported.{Reported}
 use Rattle.trials.specs.Operations.{Leaves, answering, begunAs, beginning, beginningOf, reportedAs, reportingOf, reporting, firstState}
 use Rattle.trials.specs.OperationLaws.{same-step}
 use Rattle.trials.specs.Replanning.{known-set}
-use Rattle.series.specs.Reports.{reportsOf}
-use Rattle.series.specs.Making.{replayingOf, replaying}
 use Rattle.series.specs.Whole.{leavesOf, report-leaves, after-keeps, opened}
 use Rattle.demands.specs.Marks.{known→sheet, sheet→known}
 use Rattle.demands.specs.Calls.{answerOn, answersOn, acceptedBy, acceptedOn, TrueReport, TrueLab, HowMany, OfEither, LabsOnly, Free}
@@ -167,12 +165,6 @@ module _ (s : List ℕ) (b : Book) (read : reading s ≡ accepted b) where
 
     pub begin-ok : (r : Record) → beginning s flags start end paths walk .answer ≡ Begun.Record r → beginRefusal (graph b) start end paths walk ≡ none
     begin-ok r e = begun-ok (firstState b flags start end paths walk) r (sym (ap (λ x. beginningOf x flags start end paths walk .answer) read) ∙ e)
-
-    pub replay-ok : (reports : List ℕ) (r : Record) → replaying s flags start end reports paths walk .answer ≡ Begun.Record r
-        → beginRefusal (graph b) start end paths walk ≡ none
-    replay-ok reports r e =
-        begun-ok (run (graph b) (chosen (graph b)) (firstState b flags start end paths walk) (reportsOf reports)) r
-        (sym (ap (λ x. replayingOf x flags start end reports paths walk .answer) read) ∙ e)
 
     module _ (ok : beginRefusal (graph b) start end paths walk ≡ none) where
       abbrev t : Begin

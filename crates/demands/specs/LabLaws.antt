@@ -9,9 +9,8 @@ use lib.ListN.{length}
 use Rattle.lists.specs.Test.{true→T}
 use Rattle.walks.specs.Best.{Best, None}
 use Rattle.states.specs.Chosen.{chosen}
-use Rattle.book.specs.Book.{Book, WellFormed, graph}
+use Rattle.book.specs.Book.{WellFormed, graph}
 use Rattle.book.specs.BookLaws.{reading-is-book, IsPath→isPath}
-use Rattle.book.specs.Reading.{accepted, reading}
 use Rattle.rules.specs.Binding.{known}
 use Rattle.trial_record.specs.declared.Record.{Record}
 use Rattle.trial_rules.specs.Trials.{Report, ForbiddenSet, step, Begin, begun, beginRefusal, stateAfter, acceptedOf}
@@ -20,13 +19,13 @@ use Rattle.trial_rules.specs.Invariant.{Invariant, invariant-begin}
 use Rattle.trial_rules.specs.Claim.{claim, refused-as-if-not-made}
 use Rattle.trial_rules.specs.Oracle.{OracleSet, oracle}
 use Rattle.trials.specs.declared.Begun.{Begun}
-use Rattle.trials.specs.Operations.{Leaves, answering, firstState, beginning}
+use Rattle.trials.specs.Operations.{Leaves, answering}
 use Rattle.trials.specs.Replanning.{chosen-planner}
 use Rattle.series.specs.Reports.{reportsOf}
 use Rattle.series.specs.Making.{replaying}
 use Rattle.series.specs.Whole.{leavesOf, reportsOn, opened, begin-leaves, reports-leave, replay-leaves}
 use Rattle.demands.specs.Calls.{AcceptedBegin, opening, acceptedOn, standingIn, TrueLab, LabSet}
-use Rattle.demands.specs.CallLaws.{how-many-once, many-of-either, many-labs-only, free→feasible, feasible→free, refused-kept, true-report, answer-is, only-three, begin-ok, replay-ok, accepted-are, true-lab}
+use Rattle.demands.specs.CallLaws.{how-many-once, many-of-either, many-labs-only, free→feasible, feasible→free, refused-kept, true-report, answer-is, only-three, begin-ok, accepted-are, true-lab}
 use Rattle.demands.specs.Demands.{AsRuled, LabOutcome, ReplayOutcome}
 
 module _ (β : AcceptedBegin) where
@@ -155,11 +154,3 @@ module _ (β : AcceptedBegin) where
       where
         begunWith : Leaves Record → Leaves Begun
         begunWith m = answering (Begun.Record (m .answer)) (m .paths) (m .walk)
-
--- Where `series::replay` answers a record, begin was accepted.
-pub replay-begun : (s : List ℕ) (b : Book) → reading s ≡ accepted b → (flags start end : ℕ) (reports paths walk : List ℕ) (q : Record)
-    → replaying s flags start end reports paths walk .answer ≡ Begun.Record q
-    → (r : Record) × (beginning s flags start end paths walk .answer ≡ Begun.Record r)
-replay-begun s b read flags start end reports paths walk q e =
-    let ok = replay-ok s b read flags start end paths walk reports q e in
-    (firstState b flags start end paths walk .rec, ap (λ (m : Leaves Begun). m .answer) (begin-leaves s b read flags start end paths walk ok))
