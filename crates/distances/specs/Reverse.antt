@@ -1,10 +1,10 @@
 -- The graph with tails and heads swapped: its paths are the reversed paths, at the same cost. So the distances from a state are those to it in the swapped graph.
 use Prim.Native.Nat.{ℕ, _+_, _≤_}
 use mathlib.Core.Path.{_≡_, refl, sym, ap, _∙_, subst}
-use mathlib.Core.List.{List, [], _∷_, _++_, map, Memᴰ·map}
+use mathlib.Core.List.{List, [], _∷_, _++_, map, Memᴰ·map, Memᴰ·of-map}
 use native.Mathlib.Omega.{arith}
 use lib.ListN.{length, length-append}
-use Rattle.distances.specs.Edge.{Edge, _∈_, edges, Path, total, cost}
+use Rattle.distances.specs.Edge.{Edge, _∈_, edges, Path, total, cost, Within}
 use Rattle.distances.specs.Table.{at, Least}
 
 abbrev pub swap : Edge → Edge
@@ -20,6 +20,9 @@ edges-swapped [] (h ∷ heads) costs = refl
 edges-swapped (t ∷ tails) [] costs = refl
 edges-swapped (t ∷ tails) (h ∷ heads) [] = refl
 edges-swapped (t ∷ tails) (h ∷ heads) (c ∷ costs) = ap (λ l. record { tail = h; head = t; cost = c } ∷ l) (edges-swapped tails heads costs)
+
+pub within-swapped : {n : ℕ} {es : List Edge} → Within n es → Within n (swapped es)
+within-swapped {n} {es} w e m = let (x, i, is) = Memᴰ·of-map swap es m in rw (← is) (w x i .1, w x i .0)
 
 pub swapped-swapped : (es : List Edge) → swapped (swapped es) ≡ es
 swapped-swapped [] = refl

@@ -27,7 +27,7 @@ use Rattle.states.specs.Count.{mostStates}
 use Rattle.limits.specs.Limits.{heaviest}
 use Rattle.product.specs.Product.{arcAt, stepTo, isOpen, edgeOver, stateEdges, Over, edges-over}
 use Rattle.product.specs.ProductLaws.{getD-mem, wordOf, Numbered, word-numbered, each-numbered, step-number, step-below, step-weight, step-edge, weighted}
-use Rattle.product.specs.Targets.{targets, at-targets, targets-are}
+use Rattle.product.specs.Base.{targets, at-base, base-is}
 
 -- The number of a word among words; the length where it is none of them.
 unfoldable pub number : List (List ℕ) → List ℕ → ℕ
@@ -74,7 +74,7 @@ module _ {g : Graph} {F : List (List ℕ)} {m : ℕ} {steps blockeds latests wei
   least q h = rw final (passes-least-of-all m (stateEdges weights steps blockeds latests (g .count) m) (weighted built table .within) (targets latests t m) m (omega arith) q h)
 
   base-at : (q : ℕ) → q < m → at (targets latests t m) q ≡ cond (eqb (latest (wordOf built q)) t) 0 inf
-  base-at q h = at-targets latests t m q h ∙ ap (λ x. cond (eqb x t) 0 inf) (built .stands q h)
+  base-at q h = at-base true latests t m q h ∙ ap (λ x. cond (eqb x t) 0 inf) (built .stands q h)
 
   pub at-most : (q : ℕ) → q < m → at d q ≤ at (targets latests t m) q
   at-most q h = omega (arith, least q h .least [] q refl)
@@ -82,7 +82,7 @@ module _ {g : Graph} {F : List (List ℕ)} {m : ℕ} {steps blockeds latests wei
   -- An entry below `inf` has room for one more arc and hop.
   pub bounded : (q : ℕ) → q < m → at d q < inf → (at d q / hopsLimit < mostStates * heaviest) × (at d q % hopsLimit < mostStates)
   bounded q h below =
-      let (r, p, best, e) = found (weighted built table) (targets latests t m) q h (targets-are latests t m) (least q h) below in
+      let (r, p, best, e) = found (weighted built table) (targets latests t m) q h (base-is true latests t m) (least q h) below in
       let (few, light) = best-bounds (weighted built table) (targets latests t m) q h r p best in
       omega (arith, built .few)
 

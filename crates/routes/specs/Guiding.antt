@@ -13,7 +13,7 @@ use Rattle.automaton.specs.Built.{Built}
 use Rattle.walks.specs.Weights.{Weights}
 use Rattle.distances.specs.Pack.{hopsLimit}
 use Rattle.product.specs.Product.{stepTo, stateEdges}
-use Rattle.product.specs.Targets.{targets, length-targets, targets-are}
+use Rattle.product.specs.Base.{targets, length-base, base-is}
 use Rattle.routes.specs.Distance.{at-most}
 use Rattle.routes.specs.Route.{Guided, guided}
 use Rattle.product.specs.Fits.{Row, Fits, fits}
@@ -42,10 +42,10 @@ module _ {g : Graph} {F : List (List ℕ)} {m : ℕ} {steps blockeds latests wei
   guiding t d final = record {
     fits = rw size (fits built table);
     capped = λ q. by-cases (decLt q m)
-        (λ h. ⊎-elim (λ e. omega (arith, at-most built table t d final q h)) (λ e. omega (arith, at-most built table t d final q h)) (targets-are latests t m q))
+        (λ h. ⊎-elim (λ e. omega (arith, at-most built table t d final q h)) (λ e. omega (arith, at-most built table t d final q h)) (base-is true latests t m q))
         (λ h. omega (arith, List·getD-eq-default d 0 {n = q} (omega (arith, size))));
     guides = rw size (guided built table t d final);
   }
     where
       size : length d ≡ m
-      size = ap length final ∙ length-passes (stateEdges weights steps blockeds latests (g .count) m) m (targets latests t m) ∙ length-targets latests t m
+      size = ap length final ∙ length-passes (stateEdges weights steps blockeds latests (g .count) m) m (targets latests t m) ∙ length-base true latests t m

@@ -18,7 +18,7 @@ use Rattle.routes.specs.declared.Found.{Found}
 use Rattle.routes.specs.declared.Found.the-variants.{Walk, Nothing}
 use Rattle.walks.specs.Weights.{Weights}
 use Rattle.product.specs.Product.{stateEdges}
-use Rattle.product.specs.Targets.{targets}
+use Rattle.product.specs.Base.{targets}
 use Rattle.routes.specs.Distance.{bounded}
 use Rattle.routes.specs.Route.{walkFrom, walk-best, walk-weight, start-none}
 use Rattle.product.specs.Fits.{Fits, fits}

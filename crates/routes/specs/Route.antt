@@ -26,7 +26,7 @@ use Rattle.routes.specs.Word.{word, Lowest, word-lowest}
 use Rattle.walks.specs.Weights.{Weights}
 use Rattle.product.specs.Product.{arcAt, stepTo, isOpen, stateEdges}
 use Rattle.product.specs.ProductLaws.{wordOf, Numbered, word-numbered, open-step, step-open, step-number, step-below, step-weight}
-use Rattle.product.specs.Targets.{targets}
+use Rattle.product.specs.Base.{targets}
 use Rattle.routes.specs.Distance.{unpacked, reading, reading-some, reading-none, some-reading, distance, distance-at, bounded, settled, entry-cases}
 
 module _ (weights steps blockeds latests d : List ℕ) where

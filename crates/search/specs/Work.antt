@@ -17,7 +17,7 @@ use Rattle.automaton.specs.Built.{Built}
 use Rattle.automaton.specs.Progress.{Room}
 use Rattle.product.specs.Scratch.{EdgeRoom, room-less, room-kept}
 use Rattle.product.specs.Product.{stateEdges}
-use Rattle.product.specs.Targets.{targets}
+use Rattle.product.specs.Base.{targets}
 use Rattle.routes.specs.Plan.{Prepared, Measured}
 
 -- How many states a usual book has at most (01: 30 grades, 20 runs).
