@@ -1,12 +1,13 @@
 -- A list of edges at the front of three columns.
-use mathlib.Core.List.{List, [], _∷_, _++_, map, map-append}
-use mathlib.Core.Path.{_≡_, refl, ap}
+use mathlib.Core.List.{List, [], _∷_, _++_, map, map-append, map-map}
+use mathlib.Core.Path.{_≡_, refl, sym, ap, _∙_}
 use Prim.Native.Nat.{ℕ, _+_, _<_}
 use native.Mathlib.Numerals.{add-one}
 use native.Mathlib.Omega.{arith}
-use lib.ListN.{length, take, set, length-append}
+use lib.ListN.{length, take, set, length-append, length-map}
 use lib.Seq.{take-suc-set}
 use Rattle.distances.specs.Edge.{Edge, edges}
+use Rattle.distances.specs.Reverse.{swap, swapped}
 
 -- The first k entries of the columns are the k edges es.
 pub record Columns (tails heads costs : List ℕ) (k : ℕ) (es : List Edge) : Type 0 where
@@ -37,3 +38,12 @@ edges-map (e ∷ es) = ap (λ r. e ∷ r) (edges-map es)
 
 pub columns-edges : {tails heads costs : List ℕ} {k : ℕ} {es : List Edge} → Columns tails heads costs k es → edges (take k tails) (take k heads) (take k costs) ≡ es
 columns-edges {es = es} c = rw (c .tails-are, c .heads-are, c .costs-are) (edges-map es)
+
+-- Columns with tails and heads swapped have the swapped edges.
+pub columns-swapped : {tails heads costs : List ℕ} {k : ℕ} {es : List Edge} → Columns tails heads costs k es → Columns heads tails costs k (swapped es)
+columns-swapped {es = es} c = record {
+  size = length-map es swap ∙ c .size;
+  tails-are = c .heads-are ∙ sym (map-map (λ e. e .tail) swap es);
+  heads-are = c .tails-are ∙ sym (map-map (λ e. e .head) swap es);
+  costs-are = c .costs-are ∙ sym (map-map (λ e. e .cost) swap es);
+}

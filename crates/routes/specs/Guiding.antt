@@ -1,4 +1,5 @@
 -- What the code asks of a table of distances: that the one which the passes end in meets it.
+use mathlib.Core.Bool.{true}
 use mathlib.Core.List.{List}
 use mathlib.Core.Logic.{_≢_, ⊎-elim, by-cases}
 use mathlib.Core.Path.{_≡_, ap, _∙_}

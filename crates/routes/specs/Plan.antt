@@ -1,4 +1,5 @@
 -- What a plan is, and that the search over the tables gives it.
+use mathlib.Core.Bool.{Bool, true}
 use mathlib.Core.List.{List, [], _∷_, _++_}
 use mathlib.Core.Path.{_≡_, refl, sym, ap, subst, _∙_}
 use Prim.Native.Nat.{ℕ, _-_, _/_, _%_, _<_, _≤_}
@@ -18,7 +19,7 @@ use Rattle.routes.specs.declared.Found.{Found}
 use Rattle.routes.specs.declared.Found.the-variants.{Walk, Nothing}
 use Rattle.walks.specs.Weights.{Weights}
 use Rattle.product.specs.Product.{stateEdges}
-use Rattle.product.specs.Base.{targets}
+use Rattle.product.specs.Base.{base, targets, directed}
 use Rattle.routes.specs.Distance.{bounded}
 use Rattle.routes.specs.Route.{walkFrom, walk-best, walk-weight, start-none}
 use Rattle.product.specs.Fits.{Fits, fits}
@@ -43,10 +44,10 @@ pub record Prepared (g : Graph) (F : List (List ℕ)) (n m : ℕ) (weights steps
   pub built : Built F n m steps blockeds latests
   pub table : Weights g weights
 
--- ... and d has the distances of its states to t.
-pub record Measured (g : Graph) (F : List (List ℕ)) (n t : ℕ) (weights steps blockeds latests d : List ℕ) : Type 0 where
+-- ... and d has the distances of its states to the vertex v, or from it.
+pub record Measured (towards : Bool) (g : Graph) (F : List (List ℕ)) (n v : ℕ) (weights steps blockeds latests d : List ℕ) : Type 0 where
   pub prepared : Prepared g F n (length d) weights steps blockeds latests
-  pub final : d ≡ passes (stateEdges weights steps blockeds latests n (length d)) (length d) (targets latests t (length d))
+  pub final : d ≡ passes (directed towards (stateEdges weights steps blockeds latests n (length d))) (length d) (base towards latests v (length d))
 
 module _ {g : Graph} {F : List (List ℕ)} {n m : ℕ} {weights steps blockeds latests : List ℕ} (p : Prepared g F n m weights steps blockeds latests) where
   built-of : Built F (g .count) m steps blockeds latests
@@ -58,7 +59,7 @@ module _ {g : Graph} {F : List (List ℕ)} {n m : ℕ} {weights steps blockeds l
   pub prepared-start : (s : ℕ) → s < n → s < m
   prepared-start s below = omega (arith, p .built .singles s below .below, p .built .count)
 
-module _ {g : Graph} {F : List (List ℕ)} {n t : ℕ} {weights steps blockeds latests d : List ℕ} (r : Measured g F n t weights steps blockeds latests d) where
+module _ {g : Graph} {F : List (List ℕ)} {n t : ℕ} {weights steps blockeds latests d : List ℕ} (r : Measured true g F n t weights steps blockeds latests d) where
   final-of : d ≡ passes (stateEdges weights steps blockeds latests (g .count) (length d)) (length d) (targets latests t (length d))
   final-of = rw (r .prepared .count-is) (r .final)
 
@@ -89,6 +90,11 @@ module _ {g : Graph} {F : List (List ℕ)} {n t : ℕ} {weights steps blockeds l
         hops-is = omega arith;
         area-is = area ∙ ap (λ x. walkFrom weights steps blockeds latests d n s ++ drop x old) size;
       }
+
+-- The same for each graph and forbidden set that weights and bytes stand for.
+abbrev pub MeasuredAll : Bool → List ℕ → ℕ → List ℕ → ℕ → ℕ → List ℕ → List ℕ → List ℕ → List ℕ → Type 0
+MeasuredAll towards weights vertices paths count v steps blockeds latests d =
+    (g : Graph) (F : List (List ℕ)) → g .count ≡ vertices → Weights g weights → Spells paths count F → Bounded vertices F → Measured towards g F vertices v weights steps blockeds latests d
 
 -- What the search asks: the bytes spell forbidden paths, the weights are a graph's, the start is one of its vertices, and the area has room.
 pub record Asked (weights : List ℕ) (vertices : ℕ) (paths : List ℕ) (count start : ℕ) (walk : List ℕ) : Type 0 where

@@ -1,5 +1,6 @@
 // The best walk, read off a table of distances. The other tables are those of the product.
 ghost use mathlib.Core.Path.{_≡_};
+ghost use mathlib.Core.Bool.{true};
 ghost use mathlib.Core.List.{List, [], _∷_, _++_};
 ghost use Prim.Native.Nat.{ℕ, _%_, _<_, _≤_};
 ghost use lib.ListN.{length, drop};
@@ -114,9 +115,9 @@ pub fn least_walk(
     table: &[u64],
     area: &mut [u8],
 ) -> Found
-    requires { ⌜ ((g : Graph) × (F : List (List ℕ)) × (t : ℕ) × Measured g F n t (now weights) (now steps) (now blocked) (now latest) (now table)) ⌝ }
+    requires { ⌜ ((g : Graph) × (F : List (List ℕ)) × (t : ℕ) × Measured true g F n t (now weights) (now steps) (now blocked) (now latest) (now table)) ⌝ }
     requires { ⌜ (start < n) × (longest ≤ length (now area)) ⌝ }
-    ensures { λ r. ⌜ ((g : Graph) (F : List (List ℕ)) (t : ℕ) → Measured g F n t (now (weights .entry)) (now (steps .entry)) (now (blocked .entry)) (now (latest .entry)) (now (table .entry)) → Avoids F (start ∷ []) → Searched g F start t (now (area .entry)) r (now (area .exit))) ⌝ }
+    ensures { λ r. ⌜ ((g : Graph) (F : List (List ℕ)) (t : ℕ) → Measured true g F n t (now (weights .entry)) (now (steps .entry)) (now (blocked .entry)) (now (latest .entry)) (now (table .entry)) → Avoids F (start ∷ []) → Searched g F start t (now (area .entry)) r (now (area .exit))) ⌝ }
 {
     let here = table[start];
     if here == INF {

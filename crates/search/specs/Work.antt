@@ -1,4 +1,5 @@
 -- The work tables of the whole search, and what building the automaton and the distances ask of them.
+use mathlib.Core.Bool.{Bool}
 use mathlib.Core.List.{List, _++_}
 use mathlib.Core.Logic.{by-cases}
 use mathlib.Core.Path.{_≡_, refl, sym, ap, _∙_}
@@ -17,7 +18,7 @@ use Rattle.automaton.specs.Built.{Built}
 use Rattle.automaton.specs.Progress.{Room}
 use Rattle.product.specs.Scratch.{EdgeRoom, room-less, room-kept}
 use Rattle.product.specs.Product.{stateEdges}
-use Rattle.product.specs.Base.{targets}
+use Rattle.product.specs.Base.{base, directed}
 use Rattle.routes.specs.Plan.{Prepared, Measured}
 
 -- How many states a usual book has at most (01: 30 grades, 20 runs).
@@ -81,7 +82,7 @@ module _ {paths : List ℕ} {count vertices m : ℕ} {F : List (List ℕ)} {step
       pub back-count : m ≡ length (take m (x ++ drop m table))
       back-count = sym (ap length back-front ∙ same ∙ front-length)
 
-      pub back-measured : {g : Graph} {weights : List ℕ} → g .count ≡ vertices → Weights g weights → (t : ℕ)
-          → x ≡ passes (stateEdges weights steps blockeds latests vertices (length (take m table))) (length (take m table)) (targets latests t (length (take m table)))
-          → Measured g F vertices t weights steps blockeds latests (take m (x ++ drop m table))
-      back-measured count-is weighed t final = rw back-front (record { prepared = rw same (front-prepared count-is weighed); final = rw same final })
+      pub back-measured : {g : Graph} {weights : List ℕ} → g .count ≡ vertices → Weights g weights → (towards : Bool) (v : ℕ)
+          → x ≡ passes (directed towards (stateEdges weights steps blockeds latests vertices (length (take m table)))) (length (take m table)) (base towards latests v (length (take m table)))
+          → Measured towards g F vertices v weights steps blockeds latests (take m (x ++ drop m table))
+      back-measured count-is weighed towards v final = rw back-front (record { prepared = rw same (front-prepared count-is weighed); final = rw same final })

@@ -6,8 +6,8 @@ use borrow.Author.Needs.{needs}
 use Rattle.product.proofs.distances_over.Statement.{statement}
 use Rattle.product.proofs.distances_over.Tie as tie
 
-targets-requires : tie.Need-targets-requires
-targets-requires c κs = search needs
+base-requires : tie.Need-base-requires
+base-requires c κs = search needs
 
 link-requires : tie.Need-link-requires
 link-requires c κs =
@@ -17,7 +17,7 @@ link-requires c κs =
 settle-requires : tie.Need-settle-requires
 settle-requires c κs =
     let s = c .before .before .before .before .before .before .before .before .before .before .before .before .before .before .before .before .before .before .before .before .before .before .before in
-    scratch-settle (s .pre) (s .args .end) (c .before .before .before .before .before .before .before .before .before .before .before .before .before .targets .ensures) (omega arith) (c .before .before .before .before .before .before .before .before .link .ensures)
+    scratch-settle (s .pre) (s .args .towards) (s .args .vertex) (c .before .before .before .before .before .before .before .before .before .before .before .before .before .base .ensures) (omega arith) (c .before .before .before .before .before .before .before .before .link .ensures)
 
 same-length : tie.Need-same-length
 same-length c = search needs
@@ -34,13 +34,13 @@ same-length-4 c = search needs
 returns : tie.Need-returns
 returns c =
     let s = c .before .before .before .before .before .before .before .before .before .before .before .before .before .before .before .before .before .before .before .before .before .before .before .before .before .before .before .before in
-    c .before .before .before .before .settle .ensures ∙ scratch-passes (s .pre) (s .args .end) (c .before .before .before .before .before .before .before .before .before .before .before .before .before .before .before .before .before .before .targets .ensures)
+    c .before .before .before .before .settle .ensures ∙ scratch-passes (s .pre) (s .args .towards) (s .args .vertex) (c .before .before .before .before .before .before .before .before .before .before .before .before .before .before .before .before .before .before .base .ensures)
 
 pub distances-over-spec : {M : Type 1} → statement M
 distances-over-spec =
     tie.close
     (tie.spec
-    targets-requires
+    base-requires
     link-requires
     settle-requires
     same-length

@@ -5,7 +5,7 @@ use native.Mathlib.Omega.{arith}
 use lib.ListN.{length}
 use Rattle.product.specs.Product.{stateEdges}
 use Rattle.product.specs.Columns.{Columns, columns-none}
-use Rattle.product.proofs.Targeting.{stateEdges-none, stateEdges-next}
+use Rattle.product.proofs.Looping.{stateEdges-none, stateEdges-next}
 use Rattle.product.proofs.edges.Statement.{statement}
 use Rattle.product.proofs.edges.Tie as tie
 

@@ -1,17 +1,17 @@
--- `product::distances_to` meets its contract. Assumes nothing.
+-- `product::distances` meets its contract. Assumes nothing.
 use mathlib.Core.Path.{refl, ap, _∙_}
 use native.Mathlib.Omega.{arith}
 use lib.ListN.{length, length-take}
 use Rattle.distances.specs.Table.{passes}
 use Rattle.product.specs.Columns.{columns-edges}
-use Rattle.product.specs.Targets.{targets}
+use Rattle.product.specs.Base.{base}
 use Rattle.product.specs.Scratch.{room-kept, columns-scratch}
 use borrow.Author.Needs.{needs}
-use Rattle.product.proofs.distances_to.Statement.{statement}
-use Rattle.product.proofs.distances_to.Tie as tie
+use Rattle.product.proofs.distances.Statement.{statement}
+use Rattle.product.proofs.distances.Tie as tie
 
-edges-requires : tie.Need-edges-requires
-edges-requires c κs = search needs
+directed-edges-requires : tie.Need-directed-edges-requires
+directed-edges-requires c κs = search needs
 
 slice-reshare-prefix-distances-over : tie.Need-slice-reshare-prefix-distances-over
 slice-reshare-prefix-distances-over c = search needs
@@ -52,8 +52,8 @@ slice-aggregate-distances-over-6 c = rw length-take (omega arith)
 distances-over-requires : tie.Need-distances-over-requires
 distances-over-requires c κs =
     let s = c .before .before .before .before .before .before .before .before .before .before .before .before .before .before .before .before .before .before .before .before .before .before .before .before .before .before .before in
-    let e = c .before .before .before .before .before .before .before .before .before .before .before .before .before .edges in
-    columns-scratch (s .pre .0) (s .pre .1 .0) refl (e .ensures .0) (room-kept (s .pre .1 .1) (omega arith) (omega arith) (omega arith)) (e .ensures .1)
+    let e = c .before .before .before .before .before .before .before .before .before .before .before .before .before .directed-edges in
+    columns-scratch (s .pre .0) (s .args .towards) (s .pre .1 .0) refl (e .ensures .0) (room-kept (s .pre .1 .1) (omega arith) (omega arith) (omega arith)) (e .ensures .1)
 
 same-length : tie.Need-same-length
 same-length c = search needs
@@ -80,13 +80,13 @@ returns : tie.Need-returns
 returns c =
     let s = c .before .before .before .before .before .before .before .before .before .before .before .before .before .before .before .before .before .before .before .before .before .before .before .before .before .before .before .before .before .before .before .before .before .before .before .before in
     let m = length (s .args .table .now) in
-    c .before .before .before .before .before .before .before .before .distances-over .ensures ∙ ap (λ es. passes es m (targets (s .args .latest .now) (s .args .end) m)) (columns-edges (c .before .before .before .before .before .before .before .before .before .before .before .before .before .before .before .before .before .before .before .before .before .before .edges .ensures .1))
+    c .before .before .before .before .before .before .before .before .distances-over .ensures ∙ ap (λ es. passes es m (base (s .args .towards) (s .args .latest .now) (s .args .vertex) m)) (columns-edges (c .before .before .before .before .before .before .before .before .before .before .before .before .before .before .before .before .before .before .before .before .before .before .directed-edges .ensures .1))
 
-pub distances-to-spec : {M : Type 1} → statement M
-distances-to-spec =
+pub distances-spec : {M : Type 1} → statement M
+distances-spec =
     tie.close
     (tie.spec
-    edges-requires
+    directed-edges-requires
     slice-reshare-prefix-distances-over
     slice-aggregate-distances-over
     slice-reshare-prefix-distances-over-2
