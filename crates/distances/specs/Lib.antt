@@ -7,6 +7,7 @@ pub mod Settled
 pub mod Shorten
 pub mod Bellman
 pub mod Reverse
+pub mod Ends
 pub mod Pack
 pub mod Columns
 pub mod Ready
