@@ -9,7 +9,7 @@ use Rattle.rules.specs.Area.{spelled}
 use Rattle.rules.specs.ValidLaws.{valid→Valid}
 use Rattle.walks.specs.Weights.{Weights}
 use Rattle.book.specs.TableLaws.{book-weights}
-use Rattle.planner.proofs.Area.{valid-spells, valid-bounded, valid-given}
+use Rattle.planner.specs.ValidArea.{valid-spells, valid-bounded, valid-given}
 use Rattle.planner.proofs.find.Statement.{statement}
 use Rattle.planner.proofs.find.Tie as tie
 

@@ -1,0 +1,2 @@
+-- Meaning: Reaching.
+pub mod Reaching
