@@ -1,9 +1,10 @@
 -- The table of ends as it is read off distances from the start: the entry of a vertex is the least over all states that stand at it.
 use mathlib.Core.Bool.{cond}
 use mathlib.Core.List.{List, [], _∷_, _++_}
-use mathlib.Core.Path.{_≡_, refl, ap₂}
+use mathlib.Core.Path.{_≡_, refl, ap, ap₂}
 use Prim.Native.Nat.{ℕ, zero, suc, _*_, _/_, _%_, _<_, _≤_}
 use native.Mathlib.Omega.{arith}
+use borrow.Author.Tests.{lt-ltb, le-ltb}
 use lib.Dec.{eqb, ltb}
 use lib.ListN.{length, getD, length-append}
 use Rattle.limits.specs.Limits.{mostVertices}
@@ -23,6 +24,12 @@ pub record Gathered (latests d : List ℕ) (m : ℕ) (least : List ℕ) : Type 0
 -- The two numbers of a distance: weight and hops unpacked, none at `inf`.
 abbrev pub told : ℕ → List ℕ
 told x = cond (ltb x inf) (x / hopsLimit) noEnd ∷ cond (ltb x inf) (x % hopsLimit) noEnd ∷ []
+
+pub told-near : (x : ℕ) → x < inf → told x ≡ x / hopsLimit ∷ x % hopsLimit ∷ []
+told-near x h = ap (λ b. cond b (x / hopsLimit) noEnd ∷ cond b (x % hopsLimit) noEnd ∷ []) (lt-ltb x inf h)
+
+pub told-far : (x : ℕ) → inf ≤ x → told x ≡ noEnd ∷ noEnd ∷ []
+told-far x h = ap (λ b. cond b (x / hopsLimit) noEnd ∷ cond b (x % hopsLimit) noEnd ∷ []) (le-ltb x inf h)
 
 -- The numbers of the vertices below n, where the distance to v is f v.
 unfoldable pub numbers : (ℕ → ℕ) → ℕ → List ℕ

@@ -2,6 +2,7 @@
 ghost use mathlib.Core.Path.{_≡_};
 ghost use mathlib.Core.List.{_++_};
 ghost use Prim.Native.Nat.{ℕ, _*_, _<_, _≤_};
+ghost use lib.Dec.{ltb};
 ghost use lib.ListN.{length, drop};
 ghost use Rattle.limits.specs.Limits.{mostVertices};
 ghost use Rattle.distances.specs.Table.{at, inf};
@@ -12,6 +13,13 @@ use limits::MOST_VERTICES;
 
 // Both numbers of a vertex to which no walk leads.
 pub const NO_END: u32 = 4294967295;
+
+// Whether a distance is less than another: by weight, then by hops, which one number holds.
+fn is_less(d: u64, than: u64) -> bool
+    ensures { λ r. ⌜ r ≡ ltb d than ⌝ }
+{
+    d < than
+}
 
 // Lowers the entry of each vertex to the least distance of a state that stands at it.
 fn gather(latest: &[u8], table: &[u64], least: &mut [u64; MOST_VERTICES])
@@ -24,7 +32,7 @@ fn gather(latest: &[u8], table: &[u64], least: &mut [u64; MOST_VERTICES])
     while q < table.len() {
         let v = latest[q] as usize;
         let d = table[q];
-        if d < least[v] {
+        if is_less(d, least[v]) {
             least[v] = d;
         }
         q += 1;

@@ -2,7 +2,7 @@
 use mathlib.Core.List.{[], _∷_}
 use mathlib.Core.Logic.{⊎-elim}
 use mathlib.Core.Path.{_≡_}
-use Prim.Native.Nat.{_*_, _≤_, _-_}
+use Prim.Native.Nat.{_≤_, _-_}
 use native.Mathlib.Omega.{arith}
 use borrow.Author.Tests.{lt-ltb, le-ltb}
 use lib.ListN.{length-set}
@@ -64,9 +64,7 @@ mul-ends-4 : tie.Need-mul-ends-4 Inv-loop μ-loop
 mul-ends-4 c = omega arith
 
 slice-write-ends-2 : tie.Need-slice-write-ends-2 Inv-loop μ-loop
-slice-write-ends-2 c =
-    let l = c .before .before .before .loop in
-    omega (arith, telling-length _ _ (l .inv .1), length-set (l .ends) (2 * l .v) (c .if1 .weight))
+slice-write-ends-2 c = simp length-set (omega (arith, telling-length _ _ (c .before .before .before .loop .inv .1)))
 
 add-v : tie.Need-add-v Inv-loop μ-loop
 add-v c = omega arith
