@@ -81,8 +81,7 @@ returns-5 c b g =
         le-leb (2 * b .count) _ (omega (arith, n, v .before .before .if2 .left)),
         (lt-ltb (a .start) (b .count) (omega (arith, n, v .before .if3 .left)), (valid-is v _ (not-false (v .valid .result) (else4 .if4 .left)) b g, tt)),
       ),
-    ) in
-    (
+    ) in (
       ap Filled n ∙ answer,
       call .fill .ensures b g ∙ ap (λ k. ends (graph b) (spelled (a .count) (now (a .paths))) (a .start) k ++ drop (2 * k) (now (a .table))) n ∙ table,
     )
