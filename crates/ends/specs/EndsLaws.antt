@@ -1,7 +1,7 @@
 -- What the table of ends says: two numbers for each vertex, those of the best walk to it, and none where there is no walk.
 use mathlib.Core.List.{List, [], _∷_, List·Memᴰ}
 use mathlib.Core.Logic.{by-cases}
-use mathlib.Core.Option.{Option, none, some}
+use mathlib.Core.Option.{Option, none, some, Option·getD}
 use mathlib.Core.Path.{_≡_, refl, ap, _∙_}
 use Prim.Native.Nat.{ℕ, zero, suc, _+_, _*_, _<_, _≤_}
 use native.Mathlib.Nat.{add-zero}
@@ -13,6 +13,7 @@ use Rattle.limits.specs.Limits.{mostVertices, mostPaths, heaviest, longest, lon
 use Rattle.walks.specs.Graph.{Graph, arcWeight}
 use Rattle.walks.specs.Walk.{weightOf, hops, hops-length}
 use Rattle.walks.specs.Avoid.{Long}
+use Rattle.walks.specs.Weights.{Weights}
 use Rattle.walks.specs.Best.{Best, None, Best·unique, Best·not-None, Best·stay}
 use Rattle.states.specs.Short.{best-bound, best-weight}
 use Rattle.states.specs.Chosen.{chosen, Decided, chosen-is}
@@ -21,6 +22,13 @@ use Rattle.ends.specs.Ends.{noEnd, entryOf, ends}
 pub length-entry : (g : Graph) (o : Option (List ℕ)) → length (entryOf g o) ≡ 2
 length-entry g none = refl
 length-entry g (some w) = refl
+
+arc-light : {g : Graph} {weights : List ℕ} → Weights g weights → (u v : ℕ) → arcWeight g u v ≤ heaviest
+arc-light {g} table u v = go (g .weight u v) refl
+  where
+    go : (o : Option ℕ) → g .weight u v ≡ o → Option·getD o 0 ≤ heaviest
+    go none e = omega arith
+    go (some x) e = table .light u v x e
 
 module _ (g : Graph) (F : List (List ℕ)) (s : ℕ) where
   pub length-ends : (n : ℕ) → length (ends g F s n) ≡ 2 * n
@@ -60,10 +68,10 @@ module _ (g : Graph) (F : List (List ℕ)) (s t : ℕ) (vertices : g .count ≤ 
       of (some v) h = absurd (Best·not-None (h .0) no-walk)
 
   -- These are far below the mark of none, so that the mark says that there is no walk.
-  module _ (light : (u v : ℕ) → arcWeight g u v ≤ heaviest) where
+  module _ {weights : List ℕ} (table : Weights g weights) where
     pub best-numbers : {w : List ℕ} → Best g F s t w → (weightOf g w ≤ 1599000000) × (hops w < longest)
     best-numbers {w} best =
-        (best-weight g F t best vertices paths size light, omega (arith, hops-length w (best .feasible .walk), best-bound g F t best vertices paths size))
+        (best-weight g F t best vertices paths size (arc-light table), omega (arith, hops-length w (best .feasible .walk), best-bound g F t best vertices paths size))
 
     pub none-entry : (i : ℕ) → getD (entryOf g (chosen g F s t)) i 0 ≡ noEnd → None g F s t
     none-entry i e = of (chosen g F s t) (chosen-is g F s t vertices paths size) i e
