@@ -1,6 +1,6 @@
 -- 01, 'Who can cause a refusal', of each operation: what it asks of what it is handed, in 01's order, with the number of the refusal where that is
 -- not so. And that the tests which its contract names decide just this.
-use Prim.Native.Nat.{ℕ, _≤_, _<_}
+use Prim.Native.Nat.{ℕ, _*_, _≤_, _<_}
 use mathlib.Core.Path.{_≡_, refl, sym, ap, ap₂, subst, _∙_}
 use mathlib.Core.Bool.{true, _&&_}
 use mathlib.Core.List.{List, [], _∷_, _++_}
@@ -26,6 +26,7 @@ use Rattle.rules.specs.ValidLaws.{Valid, valid→Valid, written-valid}
 use Rattle.rules.specs.Operations.{bindTests}
 use Rattle.walk_check.specs.Checking.{checkTests}
 use Rattle.planner.specs.Planning.{planTests}
+use Rattle.reach.specs.Reaching.{reachTests}
 use Rattle.trial_record.specs.declared.Record.{Record}
 use Rattle.trial_rules.specs.Trials.{Report, passed, failed, State, standing, isForbiddenSet, isRecord, isValid, Valid as ValidState, isNamed, hasRoom, beginTests}
 use Rattle.trial_rules.specs.Tests.{once→Distinct, forbidden-set, →isForbiddenSet, isValid→Valid}
@@ -53,6 +54,11 @@ planConditions paths count start end walk b =
     ∷ asks 7 (end < b .count)
     ∷ asks 9 (Valid (b .count) paths count)
     ∷ []
+
+-- 8 of the table: two numbers for each grade.
+abbrev pub reachConditions : List ℕ → ℕ → ℕ → List ℕ → Book → List Condition
+reachConditions paths count start table b =
+    asks 8 (areaSize ≤ length paths) ∷ asks 8 (2 * b .count ≤ length table) ∷ asks 7 (start < b .count) ∷ asks 9 (Valid (b .count) paths count) ∷ []
 
 abbrev pub beginConditions : ℕ → ℕ → List ℕ → List ℕ → Book → List Condition
 beginConditions start end paths walk b =
@@ -96,6 +102,7 @@ pub record Conditions (r : Reading) : Type 0 where
   pub bind : (area : List ℕ) → Judges r (bindTests area) (bindConditions area)
   pub check : (area : List ℕ) (count : ℕ) (w : List ℕ) → Judges r (checkTests area count w) (checkConditions area count w)
   pub plan : (paths : List ℕ) (count start end : ℕ) (walk : List ℕ) → Judges r (planTests paths count start end walk) (planConditions paths count start end walk)
+  pub reach : (paths : List ℕ) (count start : ℕ) (table : List ℕ) → Judges r (reachTests paths count start table) (reachConditions paths count start table)
   pub begin : (start end : ℕ) (paths walk : List ℕ) → Judges r (λ b. beginTests (graph b) start end paths walk) (beginConditions start end paths walk)
   pub report : (q : Record) (paths walk : List ℕ) (ρ : Report) → Judges r (reportTests q paths walk ρ) (reportConditions q paths walk ρ)
 
@@ -186,6 +193,13 @@ plan-decides paths count start end walk b = (
   ),
 )
 
+reach-decides : (paths : List ℕ) (count start : ℕ) (table : List ℕ) (b : Book) → Decides 0 (reachTests paths count start table b) (reachConditions paths count start table b)
+reach-decides paths count start table b = (
+  le-iff areaSize (length paths),
+  (refl, refl),
+  λ _. (le-iff (2 * b .count) (length table), (refl, refl), λ _. (lt-iff start (b .count), (refl, refl), λ _. (valid-iff (b .count) paths count, (refl, refl), λ _. tt))),
+)
+
 begin-decides : (start end : ℕ) (paths walk : List ℕ) (b : Book) → Decides 0 (beginTests (graph b) start end paths walk) (beginConditions start end paths walk b)
 begin-decides start end paths walk b = (
   le-iff areaSize (length paths),
@@ -220,6 +234,7 @@ conditions r =
       check = λ area count w. judges (checkTests area count w) (checkConditions area count w) (check-decides area count w) r;
       plan = λ paths count start end walk.
           judges (planTests paths count start end walk) (planConditions paths count start end walk) (plan-decides paths count start end walk) r;
+      reach = λ paths count start table. judges (reachTests paths count start table) (reachConditions paths count start table) (reach-decides paths count start table) r;
       begin = λ start end paths walk.
           judges (λ b. beginTests (graph b) start end paths walk) (beginConditions start end paths walk) (begin-decides start end paths walk) r;
       report = λ q paths walk ρ. judges (reportTests q paths walk ρ) (reportConditions q paths walk ρ) (report-decides q paths walk ρ) r;

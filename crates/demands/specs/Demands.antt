@@ -1,6 +1,6 @@
 -- The three demands (docs/RULES.md), sentence by sentence: each is a record with a part for each sentence, over the definitions that the contracts of the
 -- operations name. A sentence that a comment has in quotation marks is the demand's, or 01's where it says so. Theorems.antt proves all three.
-use Prim.Native.Nat.{ℕ, suc, _≤_, _<_, _+_}
+use Prim.Native.Nat.{ℕ, suc, _≤_, _<_, _+_, _*_}
 use mathlib.Core.Path.{_≡_}
 use mathlib.Core.List.{List, [], _∷_, _++_, List·Permᴰ, List·Memᴰ}
 use mathlib.Core.Logic.{_⊎_, _↔_, _≢_}
@@ -29,6 +29,9 @@ use Rattle.walk_check.specs.declared.Checked.{Checked}
 use Rattle.planner.specs.declared.Outcome.{Outcome}
 use Rattle.planner.specs.Planning.{planTests, PlanningOf, Planning}
 use Rattle.planner.specs.RuleSets.{Reordered}
+use Rattle.ends.specs.Ends.{noEnd}
+use Rattle.reach.specs.declared.Reached.{Reached}
+use Rattle.reach.specs.Reaching.{reachTests, reached, tableAfter, Reaching}
 use Rattle.listed.specs.declared.Arc.{Arc as Item}
 use Rattle.listed.specs.Listing.{listing}
 use Rattle.listed.specs.SameBook.{arcsOf}
@@ -42,7 +45,7 @@ use Rattle.series.specs.Reports.{reportsOf}
 use Rattle.series.specs.Making.{replaying}
 use Rattle.series.specs.Whole.{leavesOf, reportsOn}
 use Rattle.demands.specs.Conditions.{Condition}
-use Rattle.demands.specs.Asked.{planConditions, checkConditions, reportConditions, bindConditions, beginConditions, Cause}
+use Rattle.demands.specs.Asked.{planConditions, checkConditions, reportConditions, bindConditions, reachConditions, beginConditions, Cause}
 use Rattle.demands.specs.Fields.{BadBook, BadList}
 use Rattle.demands.specs.Marks.{Binds, Clear}
 use Rattle.demands.specs.Calls.{AcceptedBegin, opening, answerOn, acceptedOn, standingIn, TrueReport, TrueLab, HowMany, LabsOnly, LabSet, Free}
@@ -107,6 +110,8 @@ pub record Refusals (s : List ℕ) (x : Refusal) : Type 0 where
   pub plan-list : (n : ℕ) (xs : List Item) (paths : List ℕ) (count start end : ℕ) (old : List ℕ) (r : Outcome) (new : List ℕ)
       → PlanningOf (listing n xs) paths count start end old r new
       → Exactly (listing n xs) (planTests paths count start end old) (planConditions paths count start end old) x (r ≡ Outcome.Refused x)
+  pub reach : (paths : List ℕ) (count start : ℕ) (table : List ℕ)
+      → Exactly (reading s) (reachTests paths count start table) (reachConditions paths count start table) x (reached (reading s) paths count start table ≡ Reached.Refused x)
   pub begin : (flags start end : ℕ) (paths walk : List ℕ)
       → Exactly (reading s) (tests-of-begin start end paths walk) (beginConditions start end paths walk) x (beginning s flags start end paths walk .answer ≡ Begun.Refused x)
   pub replay : (flags start end : ℕ) (reports paths walk : List ℕ)
@@ -122,6 +127,8 @@ pub record Refusals (s : List ℕ) (x : Refusal) : Type 0 where
       → r ≡ Outcome.Refused x → new ≡ old
   pub plan-list-keeps : (n : ℕ) (xs : List Item) (paths : List ℕ) (count start end : ℕ) (old : List ℕ) (r : Outcome) (new : List ℕ)
       → PlanningOf (listing n xs) paths count start end old r new → r ≡ Outcome.Refused x → new ≡ old
+  pub reach-keeps : (paths : List ℕ) (count start : ℕ) (table : List ℕ) → reached (reading s) paths count start table ≡ Reached.Refused x
+      → tableAfter (reading s) paths count start table ≡ table
   pub begin-keeps : (flags start end : ℕ) (paths walk : List ℕ) → beginning s flags start end paths walk .answer ≡ Begun.Refused x
       → beginning s flags start end paths walk ≡ answering (Begun.Refused x) paths walk
   pub replay-keeps : (flags start end : ℕ) (reports paths walk : List ℕ) → replaying s flags start end reports paths walk .answer ≡ Begun.Refused x
@@ -229,6 +236,51 @@ pub record Demand2 : Type 0 where
   -- 'Two accepted books that differ only in the order of their sheets give equal plans.' Of what is read, and of the books' bytes.
   pub order-of-sheets : (s t : List ℕ) (b c : Book) → reading s ≡ accepted b → reading t ≡ accepted c → Reordered b c → SameAnswers s t
   pub order-in-bytes : (b c : Book) → Keeps b → Keeps c → Reordered b c → SameAnswers (bytesOf b) (bytesOf c)
+
+-- ==== Every end from one start (02, order 1)
+-- What planning to an end says, as the two numbers of an entry.
+abbrev pub entryFor : Outcome → List ℕ
+entryFor (Outcome.Walk litres changeovers) = litres ∷ changeovers ∷ []
+entryFor Outcome.Nothing = noEnd ∷ noEnd ∷ []
+entryFor (Outcome.Refused x) = []
+
+-- The entry of an end in a table.
+abbrev pub entryAt : List ℕ → ℕ → List ℕ
+entryAt table end = getD table (2 * end) 0 ∷ getD table (2 * end + 1) 0 ∷ []
+
+-- A plan to that end: in some line-up area that fits, planning answers r.
+pub record PlanTo (s paths : List ℕ) (count start end : ℕ) (r : Outcome) : Type 0 where
+  pub walk : List ℕ
+  pub fits : longest ≤ length walk
+  pub new : List ℕ
+  pub planned : Planning s paths count start end walk r new
+
+-- What the call answers, and the table after it.
+pub record EveryEnd (s : List ℕ) (b : Book) (paths : List ℕ) (count start : ℕ) (table : List ℕ) (r : Reached) (new : List ℕ) : Type 0 where
+  -- The answer is the number of grades.
+  pub answer : r ≡ Reached.Filled (b .count)
+  -- 'Each entry must equal what a single plan to that grade would say': in every line-up area that fits, and planning answers in each.
+  pub entry : (end : ℕ) → end < b .count → (p : Outcome) → PlanTo s paths count start end p → entryAt new end ≡ entryFor p
+  pub planned : (end : ℕ) → end < b .count → (walk : List ℕ) → longest ≤ length walk → GetsPlan (Planning s paths count start end walk)
+  -- 'none is the greatest 32-bit number in both': and nothing else is, in either.
+  pub none-first : (end : ℕ) → end < b .count → (getD new (2 * end) 0 ≡ noEnd) ↔ PlanTo s paths count start end Outcome.Nothing
+  pub none-second : (end : ℕ) → end < b .count → (getD new (2 * end + 1) 0 ≡ noEnd) ↔ PlanTo s paths count start end Outcome.Nothing
+  -- '.. the start itself with 0 and 0.'
+  pub start-entry : entryAt new start ≡ 0 ∷ 0 ∷ []
+  -- 'Further entries are untouched', and a number after them.
+  pub untouched : drop (2 * b .count) new ≡ drop (2 * b .count) table
+  pub same-length : length new ≡ length table
+
+pub record Order1 : Type 0 where
+  -- Under every valid runs area; what is refused else is in demand 1 (`Refusals`).
+  pub every-end : (s : List ℕ) (b : Book) → reading s ≡ accepted b → (paths : List ℕ) (count start : ℕ) → areaSize ≤ length paths → Valid (b .count) paths count → start < b .count
+      → (table : List ℕ) → 2 * b .count ≤ length table → (r : Reached) (new : List ℕ) → Reaching (reading s) paths count start table r new
+      → EveryEnd s b paths count start table r new
+  -- So under the known runs that binding gives, where n is the count that it answered.
+  pub batch : (s : List ℕ) (b : Book) → reading s ≡ accepted b → (flags : ℕ) (area : List ℕ) → areaSize ≤ length area → (n : ℕ) → boundAs (binding s flags area) ≡ Bound.Known n
+      → (start : ℕ) → start < b .count → (table : List ℕ) → 2 * b .count ≤ length table
+      → (r : Reached) (new : List ℕ) → Reaching (reading s) (areaAfter (binding s flags area) area) n start table r new
+      → EveryEnd s b (areaAfter (binding s flags area) area) n start table r new
 
 -- ==== Demand 3
 -- After an accepted begin β the reports ρs were made, each on what the one before it left. `done` are those that were answered with

@@ -10,6 +10,7 @@ pub mod Demands
 pub mod RefusalLaws
 pub mod AnswerLaws
 pub mod PlanLaws
+pub mod EndLaws
 pub mod SheetOrder
 pub mod CallLaws
 pub mod LabLaws

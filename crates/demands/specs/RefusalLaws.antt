@@ -21,6 +21,8 @@ use Rattle.walk_check.specs.declared.Checked.{Checked}
 use Rattle.walk_check.specs.Checking.{namedAt, answerAt, checkFrom, checkedUnless, occurrence, checkTests}
 use Rattle.planner.specs.declared.Outcome.{Outcome}
 use Rattle.planner.specs.Planning.{planTests, Planned, PlanningOf}
+use Rattle.reach.specs.declared.Reached.{Reached}
+use Rattle.reach.specs.Reaching.{reachTests, answerBy, tableBy, reached, tableAfter}
 use Rattle.listed.specs.Listing.{listing}
 use Rattle.trial_record.specs.declared.Record.{Record}
 use Rattle.trial_rules.specs.Trials.{Report, State, step, run}
@@ -81,6 +83,11 @@ plan-tells none g F start end old Outcome.Nothing new x p =
     record { defined = (λ e. zero-one (cc), λ e. absurd (Option·none-ne-some _ e)); keeps = λ _. p .1 }
 plan-tells none g F start end old (Outcome.Refused y) new x p = absurd p
 
+reach-tells : (o : Option Refusal) (g : Graph) (F : List (List ℕ)) (start : ℕ) (old : List ℕ) (x : Refusal) → Tells o x (answerBy o g ≡ Reached.Refused x) (tableBy o g F start old ≡ old)
+reach-tells none g F start old x = record { defined = (λ e. zero-one (cc), λ e. absurd (Option·none-ne-some _ e)); keeps = λ e. zero-one (cc) }
+reach-tells (some y) g F start old x =
+    record { defined = (λ e. let same : y ≡ x = cc in ap some same, λ e. let same : y ≡ x = cc in ap Reached.Refused same); keeps = λ e. refl }
+
 begin-tells : (o : Option Refusal) (σ : State) (paths walk : List ℕ) (x : Refusal)
     → Tells o x (begunAs o σ paths walk .answer ≡ Begun.Refused x) (begunAs o σ paths walk ≡ answering (Begun.Refused x) paths walk)
 begin-tells none σ paths walk x = record { defined = (λ e. zero-one (cc), λ e. absurd (Option·none-ne-some _ e)); keeps = λ e. zero-one (cc) }
@@ -114,6 +121,7 @@ refusals s x =
           exactly (conditions (reading s) .plan paths count start end old) (tells-plan (reading s) paths count start end old r new p .defined);
       plan-list = λ n xs paths count start end old r new p.
           exactly (conditions (listing n xs) .plan paths count start end old) (tells-plan (listing n xs) paths count start end old r new p .defined);
+      reach = λ paths count start table. exactly (conditions (reading s) .reach paths count start table) (tells-reach paths count start table .defined);
       begin = λ flags start end paths walk.
           exactly (conditions (reading s) .begin start end paths walk) (begin-tells (refusalOf (reading s) (tests-of-begin start end paths walk)) (first flags start end paths walk) paths walk x .defined);
       replay = λ flags start end reports paths walk.
@@ -123,6 +131,7 @@ refusals s x =
       bind-keeps = λ flags area. tells-bind flags area .keeps;
       plan-keeps = λ paths count start end old r new p. tells-plan (reading s) paths count start end old r new p .keeps;
       plan-list-keeps = λ n xs paths count start end old r new p. tells-plan (listing n xs) paths count start end old r new p .keeps;
+      reach-keeps = λ paths count start table. tells-reach paths count start table .keeps;
       begin-keeps = λ flags start end paths walk.
           begin-tells (refusalOf (reading s) (tests-of-begin start end paths walk)) (first flags start end paths walk) paths walk x .keeps;
       replay-keeps = λ flags start end reports paths walk.
@@ -147,6 +156,10 @@ refusals s x =
         → Tells (refusalOf y (planTests paths count start end old)) x (r ≡ Outcome.Refused x) (new ≡ old)
     tells-plan y paths count start end old r new p =
         plan-tells (refusalOf y (planTests paths count start end old)) (graph (bookIn y)) (spelled count paths) start end old r new x p
+
+    tells-reach : (paths : List ℕ) (count start : ℕ) (table : List ℕ)
+        → Tells (refusalOf (reading s) (reachTests paths count start table)) x (reached (reading s) paths count start table ≡ Reached.Refused x) (tableAfter (reading s) paths count start table ≡ table)
+    tells-reach paths count start table = reach-tells (refusalOf (reading s) (reachTests paths count start table)) g (spelled count paths) start table x
 
     tells-report : (q : Record) (paths walk : List ℕ) (ρ : Report)
         → Tells (refusalOf (reading s) (reportTests q paths walk ρ)) x ((q′ : Record) × (reporting s q paths walk ρ .answer ≡ Reported.Refused x q′))

@@ -1,12 +1,13 @@
--- The three demands hold.
+-- The three demands hold, and what request 1 adds to the second.
 use Rattle.book_bytes.specs.BytesLaws.{bytes-below}
 use Rattle.book_bytes.specs.Longest.{fullBook, full-keeps, full-length}
 use Rattle.book_bytes.specs.LongBook.{longest-book}
 use Rattle.book_bytes.specs.RoundTrip.{every-book-read, round-trip, refused-otherwise, same-book}
-use Rattle.demands.specs.Demands.{Demand1, Demand2, Demand3}
+use Rattle.demands.specs.Demands.{Demand1, Demand2, Order1, Demand3}
 use Rattle.demands.specs.AnswerLaws.{answers}
 use Rattle.demands.specs.RefusalLaws.{refusals}
 use Rattle.demands.specs.PlanLaws.{batch-plans}
+use Rattle.demands.specs.EndLaws.{every-end, batch-ends}
 use Rattle.demands.specs.SheetOrder.{same-answers}
 use Rattle.demands.specs.LabLaws.{ruled, labs, replay-labs}
 
@@ -31,6 +32,9 @@ demand-2 =
       order-of-sheets = same-answers;
       order-in-bytes = λ b c keeps keeps′ o. same-answers _ _ b c (every-book-read b keeps) (every-book-read c keeps′) o;
     }
+
+pub order-1 : Order1
+order-1 = record { every-end = every-end; batch = batch-ends }
 
 pub demand-3 : Demand3
 demand-3 = record { after-calls = labs; after-replay = replay-labs; after-any = ruled }
