@@ -1,4 +1,4 @@
--- The text that the program prints (01), as bytes: numbers in decimal, words, and a line feed after each line.
+-- The text that the programs print (01), as bytes: numbers in decimal, words, and a line feed after each line.
 use Prim.Native.Nat.{ℕ, zero, suc, _+_, _/_, _%_}
 use mathlib.Core.Bool.{Bool, cond}
 use mathlib.Core.List.{List, [], _∷_, _++_}
@@ -54,9 +54,13 @@ abbrev pub vertices : List ℕ → List ℕ
 vertices [] = []
 vertices (v ∷ w) = decimal v ++ followed w
 
+-- The line of a plan's weight and hops.
+abbrev pub costText : ℕ → ℕ → List ℕ
+costText weight hops′ = litres ++ decimal weight ++ changes ++ decimal hops′ ++ lineFeed
+
 -- The two lines of a plan.
 abbrev pub planText : ℕ → ℕ → List ℕ → List ℕ
-planText weight hops′ w = litres ++ decimal weight ++ changes ++ decimal hops′ ++ lineFeed ++ vertices w ++ lineFeed
+planText weight hops′ w = costText weight hops′ ++ vertices w ++ lineFeed
 
 abbrev pub walkText : Graph → List ℕ → List ℕ
 walkText g w = planText (weightOf g w) (hops w) w

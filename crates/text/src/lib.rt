@@ -3,7 +3,7 @@ ghost use mathlib.Core.List.{_∷_, _++_};
 ghost use Prim.Native.Nat.{_+_, _*_, _≤_};
 ghost use lib.ListN.{length};
 ghost use Rattle.limits.specs.Limits.{longest};
-ghost use Rattle.text.specs.Text.{planText, placeText, refusalText, foundText, longestText};
+ghost use Rattle.text.specs.Text.{costText, planText, placeText, refusalText, foundText, longestText};
 ghost use Rattle.text.specs.Text.{decimal as Text·decimal, vertices as Text·vertices, followed as Text·followed};
 ghost use Rattle.text.specs.Writing.{Wrote, Standing};
 use book::Refusal;
@@ -12,7 +12,7 @@ use routes::Found;
 // How many bytes a text has at most, with room to spare.
 pub const LONGEST_TEXT: usize = 8192;
 
-fn decimal(n: u64, out: &mut [u8], at: usize) -> usize
+pub fn decimal(n: u64, out: &mut [u8], at: usize) -> usize
     requires { ⌜ at + length (Text·decimal n) ≤ length (now out) ⌝ }
     ensures { λ r. ⌜ Wrote (Text·decimal n) at (now (out .entry)) r (now (out .exit)) ⌝ }
 {
@@ -83,6 +83,17 @@ fn vertices(walk: &[u8], out: &mut [u8], at: usize) -> usize
     followed(&walk[1..], out, next)
 }
 
+// The line of a plan's weight and hops.
+pub fn cost_text(weight: u64, hops: usize, out: &mut [u8], at: usize) -> usize
+    requires { ⌜ at + 57 ≤ length (now out) ⌝ }
+    ensures { λ r. ⌜ Wrote (costText weight hops) at (now (out .entry)) r (now (out .exit)) ⌝ }
+    ensures { λ r. ⌜ r ≤ at + 57 ⌝ }
+{
+    let litres = named(b"LITRES ", weight, out, at);
+    let changes = named(b" CHANGES ", hops as u64, out, litres);
+    word(b"\n", out, changes)
+}
+
 // The two lines of a plan.
 pub fn plan_text(weight: u64, hops: usize, walk: &[u8], out: &mut [u8]) -> usize
     requires { ⌜ 1 ≤ length (now walk) ⌝ }
@@ -90,9 +101,7 @@ pub fn plan_text(weight: u64, hops: usize, walk: &[u8], out: &mut [u8]) -> usize
     requires { ⌜ longestText ≤ length (now out) ⌝ }
     ensures { λ r. ⌜ Wrote (planText weight hops (now (walk .entry))) 0 (now (out .entry)) r (now (out .exit)) ⌝ }
 {
-    let litres = named(b"LITRES ", weight, out, 0);
-    let changes = named(b" CHANGES ", hops as u64, out, litres);
-    let line = word(b"\n", out, changes);
+    let line = cost_text(weight, hops, out, 0);
     let last = vertices(walk, out, line);
     word(b"\n", out, last)
 }
