@@ -1,0 +1,93 @@
+-- The text by what is refused, with the lines read off the table of ends; and where it stands.
+use Prim.Native.Nat.{ℕ, _≤_, _<_}
+use mathlib.Core.Path.{_≡_, refl, sym, ap, ap₂, _∙_}
+use mathlib.Core.List.{List, [], _∷_, _++_, append-nil, List·Memᴰ, List·Memᴰ·cases-cons, List·Memᴰ·not-nil}
+use mathlib.Core.Logic.{⊎-elim}
+use mathlib.Core.Option.{Option, none, some, Option·getD}
+use native.Mathlib.Omega.{arith}
+use borrow.Author.Tests.{lt-ltb, le-ltb, le-leb}
+use lib.ListN.{length, getD, take, drop, length-append}
+use lib.Seq.{take-at}
+use Rattle.limits.specs.Limits.{heaviest, longestPath}
+use Rattle.walks.specs.Graph.{Graph, arcWeight}
+use Rattle.walks.specs.Weights.{Weights}
+use Rattle.states.specs.Short.{best-weight}
+use Rattle.states.specs.Chosen.{Decided, chosen, chosen-is}
+use Rattle.book.specs.Book.{Book, All, WellFormed, graph}
+use Rattle.book.specs.BookLaws.{reading-is-book}
+use Rattle.book.specs.EntryLaws.{Short}
+use Rattle.book.specs.Reading.{accepted, reading, u16At}
+use Rattle.book.specs.Refusal.{numbered, test, refusalBy}
+use Rattle.book.specs.TableLaws.{book-weights}
+use Rattle.rules.specs.Binding.{known}
+use Rattle.rules.specs.BindingLaws.{known-few, known-short}
+use Rattle.text.specs.Text.{refusalText}
+use Rattle.text.specs.Writing.{Wrote, wrote-front}
+use Rattle.ends.specs.Ends.{ends}
+use Rattle.board_text.specs.Board.{lines, boardAs, boardOf, boardBy, boardText, Printed}
+use Rattle.board_text.specs.Lines.{Light, tableLines, ends-lines}
+
+-- ---- no best walk under the known paths of a book weighs as much as the mark of none
+arc-light : (g : Graph) (weights : List ℕ) → Weights g weights → (u v : ℕ) → arcWeight g u v ≤ heaviest
+arc-light g weights w u v = go (g .weight u v) refl
+  where
+    go : (o : Option ℕ) → g .weight u v ≡ o → Option·getD o 0 ≤ heaviest
+    go none e = omega arith
+    go (some x) e = w .light u v x e
+
+member-short : (F : List (List ℕ)) → All Short F → (r : List ℕ) → List·Memᴰ r F → length r ≤ longestPath
+member-short [] h r m = absurd (List·Memᴰ·not-nil m)
+member-short (p ∷ F) h r m = ⊎-elim (λ e. rw e (h .0)) (member-short F (h .1) r) (List·Memᴰ·cases-cons m)
+
+module _ (b : Book) (well : WellFormed b) (flags s : ℕ) where
+  abbrev F : List (List ℕ)
+  F = known flags (b .sets)
+
+  light : (v : ℕ) → Light (graph b) (chosen (graph b) F s v)
+  light v = go (chosen (graph b) F s v) (chosen-is (graph b) F s v (well .few-vertices) (known-few flags b well) short)
+    where
+      short : (r : List ℕ) → List·Memᴰ r F → length r ≤ longestPath
+      short = member-short F (known-short flags b well)
+
+      go : (o : Option (List ℕ)) → Decided (graph b) F s v o → Light (graph b) o
+      go none d = tt
+      go (some w) d =
+          omega (arith, best-weight (graph b) F v (d .0) (well .few-vertices) (known-few flags b well) short (arc-light (graph b) _ (book-weights b well)))
+
+  -- So the lines of a book are those of its table of ends, whatever stands after that.
+  pub book-lines : (G : List (List ℕ)) (n : ℕ) (table rest : List ℕ) → G ≡ F → n ≡ b .count → table ≡ ends (graph b) G s n ++ rest
+      → tableLines table n ≡ lines (graph b) F s (b .count)
+  book-lines G n table rest paths vertices is =
+      ap₂ tableLines (is ∙ ap₂ (λ H m. ends (graph b) H s m ++ rest) paths vertices) vertices ∙ ends-lines (graph b) F s (b .count) light rest
+
+-- ---- in a book that was read: 7, or the lines
+module _ (b : Book) (flags s : ℕ) where
+  pub board-refused : b .count ≤ s → boardOf (accepted b) flags s ≡ refusalText (numbered 7 0)
+  board-refused h = ap (λ x. boardAs (refusalBy (test 7 x ∷ [])) b flags s) (le-ltb s (b .count) h)
+
+  pub board-lines : s < b .count → boardOf (accepted b) flags s ≡ lines (graph b) (known flags (b .sets)) s (b .count)
+  board-lines h = ap (λ x. boardAs (refusalBy (test 7 x ∷ [])) b flags s) (lt-ltb s (b .count) h)
+
+-- The text for an input that is not refused, from the table of ends of its book.
+pub board-text : (s : List ℕ) (b : Book) → 3 ≤ length s → reading (drop 3 s) ≡ accepted b → getD s 2 0 < b .count
+    → boardText s ≡ tableLines (ends (graph b) (known (u16At s 0) (b .sets)) (getD s 2 0) (b .count)) (b .count)
+board-text s b long read start =
+    ap (λ x. boardBy x s) (le-leb 3 (length s) long)
+    ∙ ap (λ x. boardOf x (u16At s 0) (getD s 2 0)) read
+    ∙ board-lines b (u16At s 0) (getD s 2 0) start
+    ∙ sym (book-lines b (reading-is-book (drop 3 s) b read .well-formed) (u16At s 0) (getD s 2 0) _ _ _ [] refl refl (sym (append-nil (ends (graph b) (known (u16At s 0) (b .sets)) (getD s 2 0) (b .count)))))
+
+-- ---- where the text stands
+pub wrote-printed : (s : List ℕ) {old : List ℕ} {r : ℕ} {new : List ℕ} → Wrote (boardText s) 0 old r new → Printed s old r new
+wrote-printed s w = let front = wrote-front w in record { length-is = front .0; bytes-are = front .1 }
+
+-- The first r bytes are the text.
+module _ (s old : List ℕ) (r : ℕ) (new : List ℕ) (p : Printed s old r new) where
+  pub printed-front : take r new ≡ boardText s
+  printed-front = ap (take r) (p .bytes-are) ∙ take-at (boardText s) (drop r old) r (sym (p .length-is))
+
+  pub printed-size : r ≡ length (take r new)
+  printed-size = p .length-is ∙ ap length (sym printed-front)
+
+  pub printed-within : r ≤ length new
+  printed-within = omega (arith, p .length-is, ap length (p .bytes-are) ∙ length-append (boardText s) (drop r old))
