@@ -1,19 +1,15 @@
 -- The text by what is refused, with the lines read off the table of ends; and where it stands.
 use Prim.Native.Nat.{ℕ, _≤_, _<_}
 use mathlib.Core.Path.{_≡_, refl, sym, ap, ap₂, _∙_}
-use mathlib.Core.List.{List, [], _∷_, _++_, append-nil, List·Memᴰ, List·Memᴰ·cases-cons, List·Memᴰ·not-nil}
-use mathlib.Core.Logic.{⊎-elim}
-use mathlib.Core.Option.{Option, none, some, Option·getD}
+use mathlib.Core.List.{List, [], _∷_, _++_, append-nil, List·Memᴰ}
+use mathlib.Core.Option.{Option, none, some}
 use native.Mathlib.Omega.{arith}
 use borrow.Author.Tests.{lt-ltb, le-ltb, le-leb}
 use lib.ListN.{length, getD, take, drop, length-append}
 use lib.Seq.{take-at}
-use Rattle.limits.specs.Limits.{heaviest, longestPath}
-use Rattle.walks.specs.Graph.{Graph, arcWeight}
-use Rattle.walks.specs.Weights.{Weights}
-use Rattle.states.specs.Short.{best-weight}
+use Rattle.limits.specs.Limits.{longestPath}
 use Rattle.states.specs.Chosen.{Decided, chosen, chosen-is}
-use Rattle.book.specs.Book.{Book, All, WellFormed, graph}
+use Rattle.book.specs.Book.{Book, WellFormed, graph}
 use Rattle.book.specs.BookLaws.{reading-is-book}
 use Rattle.book.specs.EntryLaws.{Short}
 use Rattle.book.specs.Reading.{accepted, reading, u16At}
@@ -21,24 +17,15 @@ use Rattle.book.specs.Refusal.{numbered, test, refusalBy}
 use Rattle.book.specs.TableLaws.{book-weights}
 use Rattle.rules.specs.Binding.{known}
 use Rattle.rules.specs.BindingLaws.{known-few, known-short}
+use Rattle.planner.specs.ValidArea.{all-member}
 use Rattle.text.specs.Text.{refusalText}
 use Rattle.text.specs.Writing.{Wrote, wrote-front}
 use Rattle.ends.specs.Ends.{ends}
+use Rattle.ends.specs.EndsLaws.{best-numbers}
 use Rattle.board_text.specs.Board.{lines, boardAs, boardOf, boardBy, boardText, Printed}
 use Rattle.board_text.specs.Lines.{Light, tableLines, ends-lines}
 
 -- ---- no best walk under the known paths of a book weighs as much as the mark of none
-arc-light : (g : Graph) (weights : List ℕ) → Weights g weights → (u v : ℕ) → arcWeight g u v ≤ heaviest
-arc-light g weights w u v = go (g .weight u v) refl
-  where
-    go : (o : Option ℕ) → g .weight u v ≡ o → Option·getD o 0 ≤ heaviest
-    go none e = omega arith
-    go (some x) e = w .light u v x e
-
-member-short : (F : List (List ℕ)) → All Short F → (r : List ℕ) → List·Memᴰ r F → length r ≤ longestPath
-member-short [] h r m = absurd (List·Memᴰ·not-nil m)
-member-short (p ∷ F) h r m = ⊎-elim (λ e. rw e (h .0)) (member-short F (h .1) r) (List·Memᴰ·cases-cons m)
-
 module _ (b : Book) (well : WellFormed b) (flags s : ℕ) where
   abbrev F : List (List ℕ)
   F = known flags (b .sets)
@@ -47,12 +34,12 @@ module _ (b : Book) (well : WellFormed b) (flags s : ℕ) where
   light v = go (chosen (graph b) F s v) (chosen-is (graph b) F s v (well .few-vertices) (known-few flags b well) short)
     where
       short : (r : List ℕ) → List·Memᴰ r F → length r ≤ longestPath
-      short = member-short F (known-short flags b well)
+      short = all-member Short F (known-short flags b well)
 
       go : (o : Option (List ℕ)) → Decided (graph b) F s v o → Light (graph b) o
       go none d = tt
       go (some w) d =
-          omega (arith, best-weight (graph b) F v (d .0) (well .few-vertices) (known-few flags b well) short (arc-light (graph b) _ (book-weights b well)))
+          omega (arith, best-numbers (graph b) F s v (well .few-vertices) (known-few flags b well) short (book-weights b well) (d .0))
 
   -- So the lines of a book are those of its table of ends, whatever stands after that.
   pub book-lines : (G : List (List ℕ)) (n : ℕ) (table rest : List ℕ) → G ≡ F → n ≡ b .count → table ≡ ends (graph b) G s n ++ rest

@@ -21,7 +21,7 @@ spells-entries F rest short =
     entries-induction (λ l G. Spells l (length G) G) rest (spells-nil rest)
     (λ p G l h s. spells-cons p (replicate (8 - length p) 0) l (length G) G (omega (arith, length-replicate {A = ℕ} (8 - length p) 0)) s) F short
 
-all-member : {A : Type 0} (P : A → Type 0) (xs : List A) → All P xs → (x : A) → List·Memᴰ x xs → P x
+pub all-member : {A : Type 0} (P : A → Type 0) (xs : List A) → All P xs → (x : A) → List·Memᴰ x xs → P x
 all-member P [] h x m = absurd (List·Memᴰ·not-nil m)
 all-member P (y ∷ xs) h x m = ⊎-elim (λ e. subst P (sym e) (h .0)) (all-member P xs (h .1) x) (List·Memᴰ·cases-cons m)
 
