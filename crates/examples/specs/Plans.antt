@@ -67,7 +67,7 @@ module _ (s : List ℕ) (b : Book) (read : reading s ≡ accepted b) (flags star
 well-A : WellFormed bookA
 well-A = reading-is-book bytesA bookA book-A .well-formed
 
-each : {F : List (List ℕ)} {r : List ℕ} → All (IsPath 4) F → List·Memᴰ r F → IsPath 4 r
+pub each : {F : List (List ℕ)} {r : List ℕ} → All (IsPath 4) F → List·Memᴰ r F → IsPath 4 r
 each h (List·Memᴰ·head e) = rw e (h .0)
 each h (List·Memᴰ·tail m) = each (h .1) m
 

@@ -134,7 +134,7 @@ pub record Sums : Type 0 where
   pub no-body : Refuses (0x01 ∷ 0x00 ∷ 0x01 ∷ []) 1 0
 
 -- ---- planning
-binds : (s : List ℕ) (b : Book) → reading s ≡ accepted b → (flags : ℕ) (paths : List ℕ) → areaSize ≤ length paths
+pub binds : (s : List ℕ) (b : Book) → reading s ≡ accepted b → (flags : ℕ) (paths : List ℕ) → areaSize ≤ length paths
     → binding s flags paths ≡ Binding.bound (known flags (b .sets))
 binds s b read flags paths fits =
     ap (λ x. bindingOf x flags paths) read ∙ ap (λ o. boundUnless o (known flags (b .sets))) (hold→none (bindTests paths b) (le-leb areaSize (length paths) fits, tt))

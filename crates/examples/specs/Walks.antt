@@ -82,3 +82,16 @@ best-to-1 = record { best = certified-best bookA forbiddenA 1 (at (0 ∷ []) 100
 pub best-to-2 : Plan bookA forbiddenA 0 2 (0 ∷ 1 ∷ 2 ∷ []) 200 2
 unfolding state go blocked
 best-to-2 = record { best = certified-best bookA forbiddenA 2 (at (0 ∷ []) 200 2 ∷ at (1 ∷ []) 100 1 ∷ at (2 ∷ []) 0 0 ∷ off (3 ∷ []) ∷ at (1 ∷ 0 ∷ []) 100 1 ∷ at (2 ∷ 1 ∷ 0 ∷ []) 0 0 ∷ at (2 ∷ 0 ∷ []) 0 0 ∷ []) 0 (1 ∷ 2 ∷ []) tt; weighs = refl; takes = refl }
+
+-- Nothing leads on from 3.
+pub none-to-0 : None bookA forbiddenA 3 0
+unfolding state go blocked
+none-to-0 = certified-none bookA forbiddenA 0 (off (3 ∷ []) ∷ []) 3 tt refl
+
+pub none-to-1 : None bookA forbiddenA 3 1
+unfolding state go blocked
+none-to-1 = certified-none bookA forbiddenA 1 (off (3 ∷ []) ∷ []) 3 tt refl
+
+pub none-to-2 : None bookA forbiddenA 3 2
+unfolding state go blocked
+none-to-2 = certified-none bookA forbiddenA 2 (off (3 ∷ []) ∷ []) 3 tt refl
