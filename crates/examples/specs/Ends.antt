@@ -37,11 +37,16 @@ Fills s flags start n numbers =
     × (reached (reading s) (areaAfter (binding s flags paths) paths) (length F) start table ≡ Filled n)
     × (tableAfter (reading s) (areaAfter (binding s flags paths) paths) (length F) start table ≡ numbers ++ drop (2 * n) table)
 
+-- Start 0: 0 litres and 0 changeovers, 100 and 1, 200 and 2, 450 and 5. Start 3: none, none, none, 0 and 0.
+abbrev pub table-0 : List ℕ
+table-0 = 0 ∷ 0 ∷ 100 ∷ 1 ∷ 200 ∷ 2 ∷ 450 ∷ 5 ∷ []
+
+abbrev pub table-3 : List ℕ
+table-3 = noEnd ∷ noEnd ∷ noEnd ∷ noEnd ∷ noEnd ∷ noEnd ∷ 0 ∷ 0 ∷ []
+
 pub record Sums : Type 0 where
-  -- Start 0: 0 litres and 0 changeovers, 100 and 1, 200 and 2, 450 and 5.
-  pub from-0 : Fills bytesA 3 0 4 (0 ∷ 0 ∷ 100 ∷ 1 ∷ 200 ∷ 2 ∷ 450 ∷ 5 ∷ [])
-  -- Start 3: none, none, none, 0 and 0.
-  pub from-3 : Fills bytesA 3 3 4 (noEnd ∷ noEnd ∷ noEnd ∷ noEnd ∷ noEnd ∷ noEnd ∷ 0 ∷ 0 ∷ [])
+  pub from-0 : Fills bytesA 3 0 4 table-0
+  pub from-3 : Fills bytesA 3 3 4 table-3
 
 -- ---- from the definition of the table
 module _ (s : List ℕ) (b : Book) (read : reading s ≡ accepted b) (flags start : ℕ) (below : ltb start (b .count) ≡ true) where
@@ -87,10 +92,13 @@ four : (s : ℕ) {a b c d : List ℕ} → entry s 0 ≡ a → entry s 1 ≡ b �
 unfolding ends
 four s e0 e1 e2 e3 = ap₂ (λ l x. l ++ x) (ap₂ (λ l x. l ++ x) (ap₂ (λ l x. l ++ x) e0 e1) e2) e3
 
-pub sums : Sums
+pub ends-0 : ends graphA (known 3 (bookA .sets)) 0 4 ≡ table-0
 unfolding covers applied
-sums =
-    record {
-      from-0 = fills bytesA bookA book-A 3 0 refl _ (four 0 (own 0 (omega arith)) (to best-to-1) (to best-to-2) (to marks-3));
-      from-3 = fills bytesA bookA book-A 3 3 refl _ (four 3 (off none-to-0) (off none-to-1) (off none-to-2) (own 3 (omega arith)));
-    }
+ends-0 = four 0 (own 0 (omega arith)) (to best-to-1) (to best-to-2) (to marks-3)
+
+pub ends-3 : ends graphA (known 3 (bookA .sets)) 3 4 ≡ table-3
+unfolding covers applied
+ends-3 = four 3 (off none-to-0) (off none-to-1) (off none-to-2) (own 3 (omega arith))
+
+pub sums : Sums
+sums = record { from-0 = fills bytesA bookA book-A 3 0 refl _ ends-0; from-3 = fills bytesA bookA book-A 3 3 refl _ ends-3 }

@@ -14,3 +14,4 @@ pub mod Sums
 pub mod Trials
 pub mod Printed
 pub mod Ends
+pub mod Board

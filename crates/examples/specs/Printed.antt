@@ -47,7 +47,7 @@ unfolding digits
 endpoint-printed = prints (0 ∷ 0 ∷ 4 ∷ 0 ∷ bytesA) refused-7 (subst (λ x. AnsweredOf x 0 4 0 refused-7) (sym book-A) refl)
 
 -- 65 grades: `REFUSED 4 AT 0`; three bytes: `REFUSED 1 AT 0`
-abbrev refused-at-0 : ℕ → List ℕ
+abbrev pub refused-at-0 : ℕ → List ℕ
 refused-at-0 digit = 82 ∷ 69 ∷ 70 ∷ 85 ∷ 83 ∷ 69 ∷ 68 ∷ 32 ∷ digit ∷ 32 ∷ 65 ∷ 84 ∷ 32 ∷ 48 ∷ 10 ∷ []
 
 pub count-printed : Prints (0 ∷ 0 ∷ 0 ∷ 0 ∷ 0x01 ∷ 0x00 ∷ 0x01 ∷ 0x41 ∷ []) (refused-at-0 52)
