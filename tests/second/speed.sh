@@ -1,11 +1,13 @@
 #!/bin/sh
 # Holds a planner against the second one on the same inputs: the time that framed
 # streams of plans take, and the machine instructions of single plans (valgrind's
-# callgrind). Prints the ratio for each input.
+# callgrind). Prints the ratio for each input; then that of a board, which gives
+# every end from one start, to one plan.
 #
 #   ./speed.sh                      takes ../../target/bin/plan
 #   ./speed.sh COMMAND WORDS...     counts the instructions of that command
 #   STREAM=PROGRAM ./speed.sh       times that program (../../target/bin/frames otherwise)
+#   BOARD=PROGRAM ./speed.sh        counts that program's boards (../../target/bin/board otherwise)
 #   ROUNDS=9 ./speed.sh             runs each program more often (5 times otherwise)
 #   SEED=7 ./speed.sh               other random inputs (the seed is 1 otherwise)
 set -eu
@@ -14,11 +16,16 @@ here=$(cd "$(dirname "$0")" && pwd)
 seed=${SEED:-1}
 rounds=${ROUNDS:-5}
 stream=${STREAM:-$here/../../target/bin/frames}
+board=${BOARD:-$here/../../target/bin/board}
 second=$here/target/release/second
 
 # Each input with the number of plans in its stream.
 streams="typical:10000 largest:300 chain:500 winding:500"
 inputs="nothing typical largest chain upward downward winding"
+boards="nothing typical largest chain winding"
+
+# As many plans as a board may take at most on the largest book.
+most_plans=1.3
 
 if [ $# -eq 0 ]; then
     set -- "$here/../../target/bin/plan"
@@ -151,6 +158,52 @@ count_inputs() {
     done
 }
 
+# A board has no end: the fourth byte of a plan's input.
+without_end() {
+    head -c 3 "$1"
+    tail -c +5 "$1"
+}
+
+within() {
+    awk -v first="$1" -v other="$2" -v most="$3" 'BEGIN { exit !(first <= most * other) }'
+}
+
+count_board() {
+    name=$1
+    shift
+    make_input "$name" >"$work/input"
+    without_end "$work/input" >"$work/board"
+    "$second" board <"$work/board" >"$work/expected"
+    plan=$(instructions "$work/input" "$@")
+    every=$(instructions "$work/board" "$board")
+    if [ -z "$plan" ] || [ -z "$every" ]; then
+        shown=failed
+        status=1
+    elif ! cmp -s "$work/output" "$work/expected"; then
+        shown="different answers"
+        status=1
+    else
+        shown=$(ratio "$every" "$plan")
+        if [ "$name" = largest ] && ! within "$every" "$plan" $most_plans; then
+            shown="$shown, over $most_plans"
+            status=1
+        fi
+    fi
+    printf '%-10s %15s %15s %7s\n' "$name" "${every:--}" "${plan:--}" "$shown"
+}
+
+count_boards() {
+    if ! command -v "$board" >/dev/null || ! command -v "$1" >/dev/null; then
+        echo "There is no program at $board or at $1 yet: no board is counted."
+        return
+    fi
+    echo "instructions of one board, and of one plan"
+    printf '%-10s %15s %15s %7s\n' input board plan ratio
+    for name in $boards; do
+        count_board "$name" "$@"
+    done
+}
+
 cargo build --quiet --release --offline --manifest-path "$here/Cargo.toml" --target-dir "$here/target"
 work=$(mktemp -d)
 trap 'rm -rf "$work"' EXIT
@@ -159,4 +212,6 @@ time_streams
 echo
 install_valgrind
 count_inputs "$@"
+echo
+count_boards "$@"
 exit $status

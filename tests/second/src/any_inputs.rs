@@ -26,7 +26,8 @@ pub fn case(random: &mut Random, call: Call) -> Vec<u8> {
     bytes
 }
 
-fn any_case(random: &mut Random, call: Call) -> Case {
+/// A case before it is written, mostly good but for one fault.
+pub(crate) fn any_case(random: &mut Random, call: Call) -> Case {
     if random.chance(6) {
         return garbage(random);
     }

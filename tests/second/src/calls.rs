@@ -8,6 +8,7 @@ use crate::programs::{Input, CUT_SHORT};
 use crate::refusal::Refusal;
 use crate::text;
 use crate::trials::{self, Record};
+use std::fmt::Display;
 
 /// As many bytes as an area of a case may have.
 pub const MOST_AREA: usize = 4_096;
@@ -53,8 +54,7 @@ impl Case {
         }
         bytes.extend(self.marks.to_be_bytes());
         for (area, given) in [(&self.runs, runs), (&self.lineup, lineup)] {
-            bytes.extend((given.len() as u16).to_be_bytes());
-            bytes.extend(((area.len() - given.len()) as u16).to_be_bytes());
+            bytes.extend(lengths(area, given));
             bytes.push(area.last().copied().unwrap_or(0));
         }
         bytes.extend((self.list.len() as u16).to_be_bytes());
@@ -140,7 +140,8 @@ fn planned(answer: Option<Answer>, lineup: &[u8]) -> String {
     }
 }
 
-fn changes(name: &str, before: &[u8], after: &[u8]) -> String {
+/// A line for each item of an area that changed.
+pub(crate) fn changes<T: PartialEq + Display>(name: &str, before: &[T], after: &[T]) -> String {
     let places = before.iter().zip(after).enumerate();
     places
         .filter(|(_, (was, is))| was != is)
@@ -148,23 +149,29 @@ fn changes(name: &str, before: &[u8], after: &[u8]) -> String {
         .collect()
 }
 
-/// An area without the bytes at its end that are all equal.
-fn given(area: &[u8]) -> &[u8] {
+/// An area without the items at its end that are all equal.
+pub(crate) fn given<T: PartialEq>(area: &[T]) -> &[T] {
     let last = area.last();
-    let more = area.iter().rev().take_while(|&byte| Some(byte) == last).count();
+    let more = area.iter().rev().take_while(|&item| Some(item) == last).count();
     &area[..area.len() - more]
+}
+
+/// How many items of an area are given, and how many more it has.
+pub(crate) fn lengths<T>(area: &[T], given: &[T]) -> Vec<u8> {
+    let more = area.len() - given.len();
+    [given.len() as u16, more as u16].iter().flat_map(|length| length.to_be_bytes()).collect()
 }
 
 /// How an input tells an area: so many bytes that it gives, and after them so
 /// many of one value.
-struct AreaHead {
+pub(crate) struct AreaHead {
     given: usize,
     more: usize,
     value: u8,
 }
 
 impl AreaHead {
-    fn read(input: &mut Input) -> Result<AreaHead, Refusal> {
+    pub(crate) fn read(input: &mut Input) -> Result<AreaHead, Refusal> {
         let (given, more) = (usize::from(input.word()?), usize::from(input.word()?));
         let value = input.byte()?;
         if given + more > MOST_AREA {
@@ -173,7 +180,7 @@ impl AreaHead {
         Ok(AreaHead { given, more, value })
     }
 
-    fn area(&self, input: &mut Input) -> Result<Vec<u8>, Refusal> {
+    pub(crate) fn area(&self, input: &mut Input) -> Result<Vec<u8>, Refusal> {
         let mut area = input.take(self.given)?.to_vec();
         area.resize(self.given + self.more, self.value);
         Ok(area)

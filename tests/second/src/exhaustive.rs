@@ -75,17 +75,46 @@ pub fn best_of_all(
 #[derive(Debug)]
 pub struct TooMany;
 
-/// The best line-up of any length, best first. A line-up is dropped if a
-/// better one with the same last grades was followed before, as many grades as
-/// a run may have before its last: the two can be continued in the same ways.
+/// The best line-up of any length, best first.
 pub fn best_first(changeovers: &Changeovers, runs: &[Run], start: u8, end: u8) -> Option<Plan> {
+    let mut found = None;
+    follow(changeovers, runs, start, |litres, lineup| {
+        if lineup.last() == Some(&end) {
+            found = Some(Plan { litres, lineup: lineup.to_vec() });
+        }
+        found.is_none()
+    });
+    found
+}
+
+/// For each grade the best line-up to it, in one go: the first that comes there.
+pub fn ends_first(changeovers: &Changeovers, runs: &[Run], start: u8) -> Vec<Option<Plan>> {
+    let mut found: Vec<Option<Plan>> = vec![None; changeovers.grades()];
+    follow(changeovers, runs, start, |litres, lineup| {
+        let last = usize::from(lineup[lineup.len() - 1]);
+        found[last].get_or_insert_with(|| Plan { litres, lineup: lineup.to_vec() });
+        found.contains(&None)
+    });
+    found
+}
+
+/// Follows the line-ups from the start best first, as long as the visitor says. A
+/// line-up is dropped if a better one with the same last grades was followed
+/// before, as many grades as a run may have before its last: the two can be
+/// continued in the same ways.
+fn follow(
+    changeovers: &Changeovers,
+    runs: &[Run],
+    start: u8,
+    mut visit: impl FnMut(u64, &[u8]) -> bool,
+) {
     let memory = runs.iter().map(|run| run.len() - 1).max().unwrap_or(1);
     let mut queue: BinaryHeap<Reverse<Rank>> = BinaryHeap::new();
     let mut followed = HashSet::new();
     queue.push(Reverse((0, 1, vec![start])));
     while let Some(Reverse((litres, length, lineup))) = queue.pop() {
-        if lineup[length - 1] == end {
-            return Some(Plan { litres, lineup });
+        if !visit(litres, &lineup) {
+            return;
         }
         let remembered = lineup[length.saturating_sub(memory)..].to_vec();
         if followed.insert(remembered) {
@@ -94,7 +123,6 @@ pub fn best_first(changeovers: &Changeovers, runs: &[Run], start: u8, end: u8) -
             }
         }
     }
-    None
 }
 
 /// The bound of 01 on a plan's grades, for these runs: a plan never comes back

@@ -12,6 +12,7 @@ use crate::kinds::Kind;
 use crate::plan::LINEUP_AREA;
 use crate::programs::{Report, Trials, MOST_INPUT};
 use crate::random::Random;
+use crate::table_inputs;
 use crate::trials::STANDS;
 
 /// The case of a kind with this seed and index.
@@ -23,6 +24,8 @@ pub fn case(kind: Kind, seed: u64, index: u64) -> Vec<u8> {
         Kind::Replay => replay_case(random),
         Kind::Plan => plan_case(random),
         Kind::Any(call) => any_inputs::case(random, call),
+        Kind::Board => board_case(random),
+        Kind::AnyTable => table_inputs::case(random),
     }
 }
 
@@ -118,19 +121,41 @@ fn plan_case(random: &mut Random) -> Vec<u8> {
     let (start, end) = terminals(random, &scene);
     let book = book_bytes(random, &scene.draft, 15);
     let mut input = plan_input(generate::batch_marks(random), start, end, &book);
+    other_length(random, &mut input);
+    input
+}
+
+/// Now and then shorter than a book can be, or longer than the bytes that are
+/// read.
+fn other_length(random: &mut Random, input: &mut Vec<u8>) {
     match random.below(250) {
         0..=2 => input.truncate(random.below(6)),
-        // Longer than the bytes that are read.
         3 => input.resize(MOST_INPUT + random.below(3), random.below(5) as u8),
         _ => {}
     }
-    input
 }
 
 /// The input of `plan`.
 pub fn plan_input(marks: u16, start: u8, end: u8, book: &[u8]) -> Vec<u8> {
     let mut input = marks.to_be_bytes().to_vec();
     input.extend([start, end]);
+    input.extend(book);
+    input
+}
+
+fn board_case(random: &mut Random) -> Vec<u8> {
+    let scene = any_scene(random);
+    let (start, _) = terminals(random, &scene);
+    let book = book_bytes(random, &scene.draft, 10);
+    let mut input = board_input(generate::batch_marks(random), start, &book);
+    other_length(random, &mut input);
+    input
+}
+
+/// The input of `board`.
+pub fn board_input(marks: u16, start: u8, book: &[u8]) -> Vec<u8> {
+    let mut input = marks.to_be_bytes().to_vec();
+    input.push(start);
     input.extend(book);
     input
 }

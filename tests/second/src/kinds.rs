@@ -2,6 +2,7 @@
 
 use crate::calls::{self, Call};
 use crate::programs;
+use crate::tables;
 
 #[derive(Clone, Copy, Debug, PartialEq, Eq)]
 pub enum Kind {
@@ -11,9 +12,12 @@ pub enum Kind {
     Plan,
     /// One call with any record, and areas of any length and content.
     Any(Call),
+    Board,
+    /// One call that fills a table, with areas of any length and content.
+    AnyTable,
 }
 
-pub const KINDS: [Kind; 10] = [
+pub const KINDS: [Kind; 12] = [
     Kind::ReadBook,
     Kind::CheckLineup,
     Kind::Replay,
@@ -24,6 +28,8 @@ pub const KINDS: [Kind; 10] = [
     Kind::Any(Call::Begin),
     Kind::Any(Call::Passed),
     Kind::Any(Call::Failed),
+    Kind::Board,
+    Kind::AnyTable,
 ];
 
 impl Kind {
@@ -40,6 +46,8 @@ impl Kind {
             Kind::Any(Call::Begin) => "any_begin",
             Kind::Any(Call::Passed) => "any_passed_report",
             Kind::Any(Call::Failed) => "any_failed_report",
+            Kind::Board => "board",
+            Kind::AnyTable => "any_table",
         }
     }
 
@@ -61,6 +69,8 @@ impl Kind {
             Kind::Plan => 2,
             Kind::Replay => 3,
             Kind::Any(call) => 4 + call as u8,
+            Kind::Board => 10,
+            Kind::AnyTable => 11,
         }
     }
 
@@ -84,6 +94,8 @@ impl Kind {
             Kind::Replay => programs::replay(case),
             Kind::Plan => programs::plan(case),
             Kind::Any(call) => calls::run(call, case),
+            Kind::Board => programs::board(case),
+            Kind::AnyTable => tables::run(case),
         }
     }
 }

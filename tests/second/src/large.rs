@@ -1,23 +1,40 @@
-//! Inputs of `plan` at the limits of length.
+//! Inputs of `plan` and `board` at the limits of length.
 
 use crate::book::{Run, LONGEST_RUN};
 use crate::changeovers::{Changeover, MOST_GRADES};
 use crate::damage::damaged;
 use crate::draft::Draft;
 use crate::generate;
-use crate::inputs::plan_input;
+use crate::inputs::{board_input, plan_input};
 use crate::programs::MOST_INPUT;
 use crate::random::Random;
 
-/// The bytes of the longest input that is not refused.
-pub const LONGEST_INPUT: usize = 39_192;
+/// The bytes of the longest book, and of the longest inputs that are not refused.
+const LONGEST_BOOK: usize = 39_188;
+pub const LONGEST_INPUT: usize = 4 + LONGEST_BOOK;
+pub const LONGEST_BOARD: usize = 3 + LONGEST_BOOK;
 
 /// A plan over one of the largest books.
 pub fn largest_plan(random: &mut Random) -> Vec<u8> {
-    let draft = if random.chance(25) { generate::largest(random) } else { largest_winding(random) };
+    let draft = largest_book(random);
     let start = random.below(MOST_GRADES);
     let end = (start + random.between(1, MOST_GRADES - 1)) % MOST_GRADES;
     plan_input(generate::batch_marks(random), start as u8, end as u8, &draft.bytes())
+}
+
+/// A board over one of the largest books.
+pub fn largest_board(random: &mut Random) -> Vec<u8> {
+    let draft = largest_book(random);
+    let start = random.below(MOST_GRADES) as u8;
+    board_input(generate::batch_marks(random), start, &draft.bytes())
+}
+
+fn largest_book(random: &mut Random) -> Draft {
+    if random.chance(25) {
+        generate::largest(random)
+    } else {
+        largest_winding(random)
+    }
 }
 
 /// A largest book whose plans go far: of its changeovers few are cheap, and its
@@ -48,16 +65,19 @@ fn largest_winding(random: &mut Random) -> Draft {
     generate::sheets_of_16(Draft::new(grades).changeovers(&items), &runs)
 }
 
-/// How long the long inputs are: the longest that is not refused, the bytes that
-/// `plan` reads, and more.
-const LONG: [usize; 6] =
-    [LONGEST_INPUT, MOST_INPUT, MOST_INPUT + 1, LONGEST_INPUT + 1, 2 * MOST_INPUT, MOST_INPUT - 1];
+/// How long a long input is: the longest that is not refused, the bytes that are
+/// read, and more, in their turn.
+fn long(longest: usize, index: u64) -> usize {
+    let lengths =
+        [longest, MOST_INPUT, MOST_INPUT + 1, longest + 1, 2 * MOST_INPUT, MOST_INPUT - 1];
+    lengths[(index % lengths.len() as u64) as usize]
+}
 
-/// An input of one of these lengths in their turn: mostly a largest book, and
-/// behind it whatever fills the length.
+/// An input of one of these lengths: mostly a largest book, and behind it whatever
+/// fills the length.
 pub fn long_plan(random: &mut Random, index: u64) -> Vec<u8> {
-    let length = LONG[(index % LONG.len() as u64) as usize];
-    let mut input = match random.below(8) {
+    let length = long(LONGEST_INPUT, index);
+    let input = match random.below(8) {
         _ if length == LONGEST_INPUT => largest_plan(random),
         0 => plan_input(0, 0, 1, &generate::tiny(random).bytes()),
         1 => {
@@ -66,6 +86,20 @@ pub fn long_plan(random: &mut Random, index: u64) -> Vec<u8> {
         }
         _ => largest_plan(random),
     };
+    filled(random, input, length)
+}
+
+/// The same for boards.
+pub fn long_board(random: &mut Random, index: u64) -> Vec<u8> {
+    let length = long(LONGEST_BOARD, index);
+    let input = match random.below(8) {
+        0 if length != LONGEST_BOARD => board_input(0, 0, &generate::tiny(random).bytes()),
+        _ => largest_board(random),
+    };
+    filled(random, input, length)
+}
+
+fn filled(random: &mut Random, mut input: Vec<u8>, length: usize) -> Vec<u8> {
     let filling: Vec<u8> = random.pick(&[
         vec![0],
         vec![255],

@@ -1,16 +1,17 @@
-//! A second fuel-sequence planner, written from paper 01 alone, and the
-//! random books, vectors and comparisons that hold another planner against it.
+//! A second fuel-sequence planner, written from paper 01 and order 1 of paper 02
+//! alone, and the random books, vectors and comparisons that hold another planner against it.
 //!
-//! The planner: `book`, `changeovers`, `binding`, `check`, `plan`, `trials`,
-//! `text`, `programs`, `calls` and `lists`. Its own check: `exhaustive`. What
-//! feeds tests: `random`, `draft`, `generate`, `damage`, `inputs`, `faults`,
-//! `any_inputs`, `list_inputs`, `large`, `sources`, `samples`, `vectors`, `frames`
-//! and `kinds`.
+//! The planner: `book`, `changeovers`, `binding`, `check`, `plan`, `board`,
+//! `trials`, `text`, `programs`, `calls`, `tables` and `lists`. Its own check:
+//! `exhaustive`. What feeds tests: `random`, `draft`, `generate`, `damage`,
+//! `inputs`, `faults`, `any_inputs`, `table_inputs`, `list_inputs`, `large`,
+//! `sources`, `samples`, `vectors`, `frames` and `kinds`.
 
 #![forbid(unsafe_code)]
 
 pub mod any_inputs;
 pub mod binding;
+pub mod board;
 pub mod book;
 pub mod calls;
 pub mod changeovers;
@@ -32,6 +33,8 @@ pub mod random;
 pub mod refusal;
 pub mod samples;
 pub mod sources;
+pub mod table_inputs;
+pub mod tables;
 pub mod text;
 pub mod trials;
 pub mod vectors;

@@ -1,6 +1,7 @@
 //! The programs as functions from standard input to standard output.
 
 use crate::binding::{self, RUNS_AREA};
+use crate::board;
 use crate::book;
 use crate::check;
 use crate::plan::{self, LINEUP_AREA};
@@ -8,7 +9,7 @@ use crate::refusal::Refusal;
 use crate::text;
 use crate::trials::{self, Record};
 
-/// The most bytes of its input that `plan` and `read_book` look at.
+/// The most bytes of its input that `plan`, `board` and `read_book` look at.
 pub const MOST_INPUT: usize = 65_536;
 
 /// Input that is shorter than its own fixed part or its lengths say.
@@ -29,6 +30,23 @@ fn plan_text(input: &[u8]) -> Result<String, Refusal> {
     }
     let runs = binding::known_runs(&book, marks);
     Ok(text::plan(plan::best(&book.changeovers, &runs, start, end).as_ref()))
+}
+
+/// 02's board: marks, start, then a book.
+pub fn board(input: &[u8]) -> String {
+    board_text(first_bytes(input)).unwrap_or_else(text::refusal)
+}
+
+fn board_text(input: &[u8]) -> Result<String, Refusal> {
+    let mut input = Input(input);
+    let marks = input.word()?;
+    let start = input.byte()?;
+    let book = book::read(input.0)?;
+    if !book.changeovers.has_grade(start) {
+        return Err(Refusal::plain(7));
+    }
+    let runs = binding::known_runs(&book, marks);
+    Ok(text::board(&board::ends(&book.changeovers, &runs, start)))
 }
 
 /// `check_lineup`: marks, the line-up's length in two bytes, the line-up, the
@@ -58,7 +76,7 @@ fn replay_text(input: &[u8]) -> Result<String, Refusal> {
     let mut input = Input(input);
     let marks = input.word()?;
     let (start, end) = (input.byte()?, input.byte()?);
-    let length = input.double_word()?;
+    let length = input.double_word()? as usize;
     let book = input.take(length)?;
     let mut trials = Trials::begin(book, marks, start, end)?;
     let mut text = trials.text();
@@ -154,9 +172,9 @@ impl<'a> Input<'a> {
         Ok(u16::from_be_bytes([bytes[0], bytes[1]]))
     }
 
-    fn double_word(&mut self) -> Result<usize, Refusal> {
+    pub(crate) fn double_word(&mut self) -> Result<u32, Refusal> {
         let bytes = self.take(4)?;
-        Ok(u32::from_be_bytes([bytes[0], bytes[1], bytes[2], bytes[3]]) as usize)
+        Ok(u32::from_be_bytes([bytes[0], bytes[1], bytes[2], bytes[3]]))
     }
 
     /// Eight bytes, high byte first.

@@ -5,9 +5,12 @@ use crate::any_inputs;
 use crate::book::{TAG_CHANGEOVER, TAG_COUNT, TAG_RUN, TAG_SHEET};
 use crate::draft::Draft;
 use crate::generate;
-use crate::inputs::{self, check_lineup_input, failed_bytes, plan_input, replay_input};
+use crate::inputs::{
+    self, board_input, check_lineup_input, failed_bytes, plan_input, replay_input,
+};
 use crate::kinds::Kind;
 use crate::random::Random;
+use crate::table_inputs;
 
 /// The chosen cases of a kind; the seed serves those that hold random books.
 pub fn cases(kind: Kind, seed: u64) -> Vec<Vec<u8>> {
@@ -18,6 +21,8 @@ pub fn cases(kind: Kind, seed: u64) -> Vec<Vec<u8>> {
         Kind::Replay => replay_cases(random),
         Kind::Plan => plan_cases(random),
         Kind::Any(call) => any_inputs::chosen(random, call),
+        Kind::Board => board_cases(random),
+        Kind::AnyTable => table_inputs::chosen(random),
     }
 }
 
@@ -303,6 +308,55 @@ fn long_plans() -> Vec<Vec<u8>> {
 fn winding_input(spokes: &[u8]) -> Vec<u8> {
     let book = generate::wheels(spokes, Some(1_000_000)).bytes();
     plan_input(0, 0, generate::wheels_end(spokes), &book)
+}
+
+fn board_cases(random: &mut Random) -> Vec<Vec<u8>> {
+    let mut cases = board_sums();
+    cases.extend(cuts(&board_input(3, 0, &book_a().bytes())));
+    for draft in drafts_at_boundaries() {
+        cases.push(board_input(0xffff, 1, &draft.bytes()));
+    }
+    cases.extend(long_boards());
+    for _ in 0..12 {
+        let typical = generate::typical(random).bytes();
+        let start = random.below(30) as u8;
+        cases.push(board_input(generate::batch_marks(random), start, &typical));
+    }
+    cases.push(board_input(0, 63, &generate::largest(random).bytes()));
+    cases
+}
+
+/// The books of 01's settled sums from every start, and from some that are not
+/// below the count, which is after the book's own refusals.
+fn board_sums() -> Vec<Vec<u8>> {
+    let mut cases = Vec::new();
+    let with_short_way = book_of_ties().changeover(0, 3, 200);
+    for book in [book_a(), book_a_other_order(), book_of_ties(), with_short_way] {
+        for start in [0, 1, 2, 3, 4, 5, 64, 255] {
+            for marks in 0..4 {
+                cases.push(board_input(marks, start, &book.bytes()));
+            }
+            cases.push(board_input(3, start, &book.clone().sheet(0).run(&[0, 0]).bytes()));
+        }
+    }
+    cases
+}
+
+/// Ends that are far away, and ends that nothing leads to.
+fn long_boards() -> Vec<Vec<u8>> {
+    let mut cases = Vec::new();
+    for litres in [0, 1_000_000] {
+        for start in [0, 31, 63] {
+            cases.push(board_input(0, start, &generate::line(64, true, litres).bytes()));
+            cases.push(board_input(0, start, &generate::line(64, false, litres).bytes()));
+        }
+    }
+    for spokes in [&WHEELS[..], &[3], &[9, 8]] {
+        cases.push(board_input(0, 0, &generate::wheels(spokes, None).bytes()));
+        cases.push(board_input(0, spokes[0], &generate::wheels(spokes, None).bytes()));
+    }
+    cases.push(board_input(0, 0, &generate::wheels(&[11, 10], Some(1_000_000)).bytes()));
+    cases
 }
 
 fn check_lineup_cases(random: &mut Random) -> Vec<Vec<u8>> {

@@ -1,5 +1,5 @@
-//! What a comparison draws its inputs from: the random cases of a kind, plans at
-//! the limits of length, or lists of changeovers.
+//! What a comparison draws its inputs from: the random cases of a kind, plans and
+//! boards at the limits of length, or lists of changeovers.
 
 use crate::frames;
 use crate::inputs;
@@ -14,6 +14,8 @@ pub enum Source {
     Cases(Kind),
     LargestPlans,
     LongPlans,
+    LargestBoards,
+    LongBoards,
     Lists,
 }
 
@@ -24,6 +26,9 @@ impl Source {
             "largest_plan" => Some((Source::LargestPlans, false)),
             "largest_plans" => Some((Source::LargestPlans, true)),
             "long_plan" => Some((Source::LongPlans, false)),
+            "largest_board" => Some((Source::LargestBoards, false)),
+            "largest_boards" => Some((Source::LargestBoards, true)),
+            "long_board" => Some((Source::LongBoards, false)),
             "plan_lists" => Some((Source::Lists, true)),
             _ => {
                 let single = Kind::named(name).map(|kind| (Source::Cases(kind), false));
@@ -38,6 +43,7 @@ impl Source {
         match self {
             Source::Cases(kind) => Some(kind),
             Source::LargestPlans | Source::LongPlans => Some(Kind::Plan),
+            Source::LargestBoards | Source::LongBoards => Some(Kind::Board),
             Source::Lists => None,
         }
     }
@@ -50,6 +56,8 @@ impl Source {
             Source::Cases(kind) => inputs::case(kind, seed, index),
             Source::LargestPlans => large::largest_plan(&mut random(0)),
             Source::LongPlans => large::long_plan(&mut random(1), index),
+            Source::LargestBoards => large::largest_board(&mut random(2)),
+            Source::LongBoards => large::long_board(&mut random(3), index),
             Source::Lists => list_inputs::case(seed, index),
         }
     }

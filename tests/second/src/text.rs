@@ -2,7 +2,7 @@
 
 use crate::book::Book;
 use crate::check::Found;
-use crate::plan::Plan;
+use crate::plan::{Answer, Plan};
 use crate::refusal::Refusal;
 use crate::trials::{Record, NONE};
 
@@ -21,6 +21,15 @@ pub fn plan(plan: Option<&Plan>) -> String {
             format!("LITRES {} CHANGES {}\n{}", plan.litres, plan.changes(), grades)
         }
     }
+}
+
+/// A line for each grade in rising order.
+pub fn board(ends: &[Option<Answer>]) -> String {
+    let line = |(grade, end): (usize, &Option<Answer>)| match end {
+        None => format!("{grade} NONE\n"),
+        Some(Answer { litres, changes }) => format!("{grade} LITRES {litres} CHANGES {changes}\n"),
+    };
+    ends.iter().enumerate().map(line).collect()
 }
 
 pub fn check(found: Option<Found>) -> String {

@@ -17,6 +17,8 @@ fn random_cases(kind: Kind) -> u64 {
         Kind::Replay => 500,
         Kind::Plan => 1_200,
         Kind::Any(_) => 40,
+        Kind::Board => 500,
+        Kind::AnyTable => 150,
     }
 }
 
@@ -43,7 +45,7 @@ pub fn stream(seed: u64) -> Vec<u8> {
     stream
 }
 
-const NO_KIND: [&[u8]; 4] = [&[], &[10], &[255], &[10, 1, 0, 1, 4]];
+const NO_KIND: [&[u8]; 4] = [&[], &[12], &[255], &[12, 1, 0, 1, 4]];
 
 /// What a program is run on and has to print, and a note on where that is from.
 pub struct Stored {
@@ -94,6 +96,11 @@ fn single_cases() -> Vec<(Kind, Vec<u8>, &'static str)> {
             Kind::Plan,
             inputs::plan_input(3, 0, 3, &book),
             "the case that paper 01 lists for `plan`: marks 3, start 0, end 3 and book A",
+        ),
+        (
+            Kind::Board,
+            inputs::board_input(3, 0, &book),
+            "one case of `board`: marks 3, start 0 and book A",
         ),
         (
             Kind::CheckLineup,

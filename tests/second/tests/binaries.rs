@@ -39,7 +39,7 @@ fn second_answers_one_case_or_a_stream() {
     assert_eq!(text(&run(SECOND, &["plan"], &listing)), answer);
     let stream = [
         frames::join(Kind::Plan, &[listing.clone(), vec![], listing]),
-        frames::framed(&[10]),
+        frames::framed(&[12]),
         frames::framed(&[]),
         frames::frame(Kind::ReadBook, &samples::book_a().bytes()[..4]),
     ]
@@ -78,6 +78,7 @@ fn wrong_words_fail() {
         (COMPARE, &["plan", "5", "1", "--"]),
         (COMPARE, &["other", "5", "1", "--", SECOND, "plan"]),
         (COMPARE, &["long_plans", "5", "1", "--", SECOND, "plan"]),
+        (COMPARE, &["long_boards", "5", "1", "--", SECOND, "board"]),
         (COMPARE, &["plan_list", "5", "1", "--", SECOND, "plan_lists"]),
         (COMPARE, &["--trickle", "0", "plan", "5", "1", "--", SECOND, "plan"]),
         (VECTORS, &["1"]),
@@ -100,11 +101,11 @@ fn vectors_writes_three_files_for_each_program() {
     let stream = lists::join(&list_inputs::stored(4));
     assert_eq!(read("plan_list", "stdin"), stream);
     assert_eq!(read("plan_list", "stdout"), lists::run(&stream).into_bytes());
-    for kind in [Kind::Plan, Kind::CheckLineup, Kind::Replay] {
+    for kind in [Kind::Plan, Kind::Board, Kind::CheckLineup, Kind::Replay] {
         let case = read(kind.name(), "stdin");
         assert_eq!(read(kind.name(), "stdout"), kind.run(&case).into_bytes());
     }
-    for program in ["frames", "plan_list", "plan", "check_lineup", "replay"] {
+    for program in ["frames", "plan_list", "plan", "board", "check_lineup", "replay"] {
         let note = String::from_utf8(read(program, "VECTORS.txt")).unwrap();
         assert!(note.contains(&format!("--bin vectors -- 4 {name}\n")), "{note}");
     }
@@ -129,6 +130,8 @@ fn compare_takes_long_inputs_and_lets_them_trickle() {
     for (words, word) in [
         (&["largest_plans", "5"][..], "frames"),
         (&["long_plan", "12"], "plan"),
+        (&["largest_boards", "3"], "frames"),
+        (&["long_board", "12"], "board"),
         (&["--trickle", "300", "long_plan", "6"], "plan"),
         (&["--limit", "60", "--trickle", "1", "check_lineup", "3"], "check_lineup"),
     ] {

@@ -88,6 +88,10 @@ fn vectors_are_complete() {
     let replay =
         ["STAGE 0", "STAGE 1", "STAGE 2", "REFUSED 7", "REFUSED 11", "REFUSED 12", "REFUSED 13"];
     check(Kind::Replay, 320, 1_000_000, &with(&replay));
+    let board = ["0 LITRES 0 CHANGES 0", "3 LITRES 450 CHANGES 5", "3 NONE", "REFUSED 7"];
+    check(Kind::Board, 600, 1_000_000, &with(&board));
+    let table = ["FILLED 4", "FILLED 1", "TABLE 1 ", "REFUSED 7", "REFUSED 8", "REFUSED 9"];
+    check(Kind::AnyTable, 200, 500_000, &[&table[..], &["REFUSED 1 "]].concat());
     let any = |call, answers: &[&str]| check(Kind::Any(call), 100, 500_000, answers);
     any(Call::Bind, &["KNOWN 2", "RUNS ", "REFUSED 1 ", "REFUSED 8"]);
     any(Call::Check, &["CLEAR", "RUN AT ", "REFUSED 1 ", "REFUSED 8", "REFUSED 9", "REFUSED 10"]);
@@ -126,6 +130,16 @@ fn inputs_at_the_limits_have_their_lengths() {
         assert!(lengths.contains(&length), "{lengths:?}");
     }
     assert!(Kind::Plan.run(&Source::LongPlans.case(1, 0)).starts_with("LITRES "));
+    for index in 0..4 {
+        let input = Source::LargestBoards.case(1, index);
+        assert_eq!(input.len(), large::LONGEST_BOARD);
+        assert_eq!(Kind::Board.run(&input).lines().count(), 64);
+    }
+    let lengths: Vec<usize> = (0..6).map(|i| Source::LongBoards.case(1, i).len()).collect();
+    for length in [39_191, 39_192, 65_535, 65_536, 65_537, 131_072] {
+        assert!(lengths.contains(&length), "{lengths:?}");
+    }
+    assert_eq!(Kind::Board.run(&Source::LongBoards.case(1, 0)).lines().count(), 64);
 }
 
 /// 01's settled sums are among the vectors with the paper's answers.

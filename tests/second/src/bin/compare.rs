@@ -15,9 +15,10 @@ use std::time::{Duration, Instant};
 const USAGE: &str =
     "usage: compare [--limit SECONDS] [--trickle BYTES] KIND N SEED -- COMMAND WORDS...
        compare --show KIND SEED INDEX
-KIND is plan, replay, check_lineup, read_book, any_bind, any_check, any_plan, any_begin,
-any_passed_report, any_failed_report, largest_plan or long_plan: one process for each input;
-or one of these with an s behind it, except long_plan: framed streams of inputs;
+KIND is plan, board, replay, check_lineup, read_book, any_bind, any_check, any_plan, any_begin,
+any_passed_report, any_failed_report, any_table, largest_plan, largest_board, long_plan or
+long_board: one process for each input;
+or one of these with an s behind it, except the long ones: framed streams of inputs;
 or plan_lists: framed streams of lists.";
 
 /// How many cases a framed stream holds at most.
