@@ -37,6 +37,8 @@ fn framed_case(frame: &[u8]) {
         7 => any_case(Call::Begin, input),
         8 => any_case(Call::Passed, input),
         9 => any_case(Call::Failed, input),
+        10 => table_cases::board_case(input),
+        11 => table_cases::table_case(input),
         _ => text(b"UNKNOWN KIND\n"),
     }
 }

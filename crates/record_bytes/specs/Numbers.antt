@@ -7,8 +7,11 @@ use Rattle.trial_record.specs.declared.Record.{Record}
 abbrev pub wordAt : List ℕ → ℕ → ℕ
 wordAt s at = getD s at 0 * 256 + getD s (at + 1) 0
 
+abbrev pub fourAt : List ℕ → ℕ → ℕ
+fourAt s at = wordAt s at * 65536 + wordAt s (at + 2)
+
 abbrev pub eightAt : List ℕ → ℕ → ℕ
-eightAt s at = ((wordAt s at * 65536 + wordAt s (at + 2)) * 65536 + wordAt s (at + 4)) * 65536 + wordAt s (at + 6)
+eightAt s at = (fourAt s at * 65536 + wordAt s (at + 4)) * 65536 + wordAt s (at + 6)
 
 abbrev pub recordAt : List ℕ → Record
 recordAt s =

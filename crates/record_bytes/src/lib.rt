@@ -2,7 +2,7 @@
 ghost use mathlib.Core.Path.{_≡_};
 ghost use lib.ListN.{length};
 ghost use Prim.Native.Nat.{_+_, _≤_, _<_};
-ghost use Rattle.record_bytes.specs.Numbers.{wordAt, eightAt, recordAt};
+ghost use Rattle.record_bytes.specs.Numbers.{wordAt, fourAt, eightAt, recordAt};
 use lists::u16_from;
 use trial_record::Record;
 
@@ -15,8 +15,16 @@ pub fn word(s: &[u8], at: usize) -> usize
     u16_from(s[at], s[at + 1]) as usize
 }
 
+// Four bytes.
+pub fn four(s: &[u8], at: usize) -> u32
+    requires { ⌜ at + 4 ≤ length (now s) ⌝ }
+    ensures { λ r. ⌜ r ≡ fourAt (now (s .entry)) at ⌝ }
+{
+    (word(s, at) * 65_536 + word(s, at + 2)) as u32
+}
+
 // Eight bytes.
-fn eight(s: &[u8], at: usize) -> usize
+pub fn eight(s: &[u8], at: usize) -> usize
     requires { ⌜ at + 8 ≤ length (now s) ⌝ }
     ensures { λ r. ⌜ r ≡ eightAt (now (s .entry)) at ⌝ }
 {

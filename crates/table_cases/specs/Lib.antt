@@ -1,0 +1,2 @@
+-- Meaning: Given (the numbers of a table in a case).
+pub mod Given
