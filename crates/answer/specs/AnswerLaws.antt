@@ -21,7 +21,7 @@ use Rattle.routes.specs.declared.Found.{Found}
 use Rattle.routes.specs.declared.Found.the-variants.{Walk, Nothing}
 use Rattle.routes.specs.Plan.{PlannedWalk, Searched}
 use Rattle.text.specs.Text.{planText, walkText, refusalText, foundText}
-use Rattle.text.specs.Writing.{Standing}
+use Rattle.text.specs.Writing.{Standing, front-text, front-size, front-within}
 use Rattle.answer.specs.Answer.{AnsweredUnder, AnsweredAs, answerTests, AnsweredOf, AnsweredBy, Answered, Printed}
 
 -- ---- one text
@@ -51,17 +51,14 @@ Printed-unique s old r r′ new new′ p q =
 
 -- The first r bytes are the text.
 module _ (s old : List ℕ) (r : ℕ) (new : List ℕ) (p : Printed s old r new) where
-  front-text : take r new ≡ p .text
-  front-text = ap (take r) (p .bytes-are) ∙ take-at (p .text) (drop r old) r (sym (p .length-is))
-
   pub printed-front : Answered s (take r new)
-  printed-front = subst (Answered s) (sym front-text) (p .answered)
+  printed-front = subst (Answered s) (sym (front-text (p .text) old (p .length-is) (p .bytes-are))) (p .answered)
 
   pub printed-size : r ≡ length (take r new)
-  printed-size = p .length-is ∙ ap length (sym front-text)
+  printed-size = front-size (p .text) old (p .length-is) (p .bytes-are)
 
   pub printed-within : r ≤ length new
-  printed-within = omega (arith, p .length-is, ap length (p .bytes-are) ∙ length-append (p .text) (drop r old))
+  printed-within = front-within (p .text) old (p .length-is) (p .bytes-are)
 
 -- ---- from what is found
 -- the walk of a plan stands in the front of its area

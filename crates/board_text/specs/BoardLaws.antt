@@ -5,21 +5,19 @@ use mathlib.Core.List.{List, [], _∷_, _++_, append-nil, List·Memᴰ}
 use mathlib.Core.Option.{Option, none, some}
 use native.Mathlib.Omega.{arith}
 use borrow.Author.Tests.{lt-ltb, le-ltb, le-leb}
-use lib.ListN.{length, getD, take, drop, length-append}
-use lib.Seq.{take-at}
+use lib.ListN.{length, getD, take, drop}
 use Rattle.limits.specs.Limits.{longestPath}
 use Rattle.states.specs.Chosen.{Decided, chosen, chosen-is}
 use Rattle.book.specs.Book.{Book, WellFormed, graph}
-use Rattle.book.specs.BookLaws.{reading-is-book}
+use Rattle.book.specs.BookLaws.{reading-is-book, all-member}
 use Rattle.book.specs.EntryLaws.{Short}
 use Rattle.book.specs.Reading.{accepted, reading, u16At}
 use Rattle.book.specs.Refusal.{numbered, test, refusalBy}
 use Rattle.book.specs.TableLaws.{book-weights}
 use Rattle.rules.specs.Binding.{known}
 use Rattle.rules.specs.BindingLaws.{known-few, known-short}
-use Rattle.planner.specs.ValidArea.{all-member}
 use Rattle.text.specs.Text.{refusalText}
-use Rattle.text.specs.Writing.{Wrote, wrote-front}
+use Rattle.text.specs.Writing.{Wrote, wrote-front, front-text, front-size, front-within}
 use Rattle.ends.specs.Ends.{ends}
 use Rattle.ends.specs.EndsLaws.{best-numbers}
 use Rattle.board_text.specs.Board.{lines, boardAs, boardOf, boardBy, boardText, Printed}
@@ -71,10 +69,10 @@ wrote-printed s w = let front = wrote-front w in record { length-is = front .0; 
 -- The first r bytes are the text.
 module _ (s old : List ℕ) (r : ℕ) (new : List ℕ) (p : Printed s old r new) where
   pub printed-front : take r new ≡ boardText s
-  printed-front = ap (take r) (p .bytes-are) ∙ take-at (boardText s) (drop r old) r (sym (p .length-is))
+  printed-front = front-text (boardText s) old (p .length-is) (p .bytes-are)
 
   pub printed-size : r ≡ length (take r new)
-  printed-size = p .length-is ∙ ap length (sym printed-front)
+  printed-size = front-size (boardText s) old (p .length-is) (p .bytes-are)
 
   pub printed-within : r ≤ length new
-  printed-within = omega (arith, p .length-is, ap length (p .bytes-are) ∙ length-append (boardText s) (drop r old))
+  printed-within = front-within (boardText s) old (p .length-is) (p .bytes-are)

@@ -16,6 +16,7 @@ use ends::NO_END;
 use limits::AREA;
 use limits::MOST_PATHS;
 use limits::MOST_SETS;
+use limits::MOST_VERTICES;
 use limits::NO_ARC;
 use limits::PAIRS;
 use lists::u16_from;
@@ -25,7 +26,7 @@ use text::refusal_text;
 use text::word;
 
 // The numbers of the longest table of ends: two for each vertex.
-const NUMBERS: usize = 128;
+const NUMBERS: usize = 2 * MOST_VERTICES;
 
 // Writes the text for an input (marks in two bytes, start, and a book) into the front of `out`, and answers how many bytes
 // it has.

@@ -1,5 +1,6 @@
 -- The three demands (docs/RULES.md), sentence by sentence: each is a record with a part for each sentence, over the definitions that the contracts of the
--- operations name. A sentence that a comment has in quotation marks is the demand's, or 01's where it says so. Theorems.antt proves all three.
+-- operations name; and beside the second demand what request 1 adds (02, order 1). A sentence that a comment has in quotation marks is the demand's, 02's in the part of that
+-- request, or 01's where it says so. Theorems.antt proves them.
 use Prim.Native.Nat.{ℕ, suc, _≤_, _<_, _+_, _*_}
 use mathlib.Core.Path.{_≡_}
 use mathlib.Core.List.{List, [], _∷_, _++_, List·Permᴰ, List·Memᴰ}
@@ -225,6 +226,12 @@ pub record SameAnswers (s s′ : List ℕ) : Type 0 where
       → Planning s (areaAfter (binding s flags area) area) n start end old r new
       → Planning s′ (areaAfter (binding s′ flags area′) area′) n′ start end old r′ new′
       → (r ≡ r′) × (new ≡ new′)
+  -- The table of every end, of every length, refusals included.
+  pub tables : (flags : ℕ) (area area′ : List ℕ) → areaSize ≤ length area → areaSize ≤ length area′
+      → (n n′ : ℕ) → boundAs (binding s flags area) ≡ Bound.Known n → boundAs (binding s′ flags area′) ≡ Bound.Known n′
+      → (start : ℕ) (table : List ℕ)
+      → (reached (reading s) (areaAfter (binding s flags area) area) n start table ≡ reached (reading s′) (areaAfter (binding s′ flags area′) area′) n′ start table)
+      × (tableAfter (reading s) (areaAfter (binding s flags area) area) n start table ≡ tableAfter (reading s′) (areaAfter (binding s′ flags area′) area′) n′ start table)
   pub trials : (flags start end : ℕ) (paths walk : List ℕ) → SameTrials (beginning s flags start end paths walk) (beginning s′ flags start end paths walk)
 
 -- ---- the demand

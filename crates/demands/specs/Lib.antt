@@ -1,5 +1,5 @@
--- Meaning: Demands (the three demands, sentence by sentence), in the words of Marks (which sheets bind), Fields and Asked (what each refusal is for) and Calls (the
--- answers to a list of reports, and true labs), with Conditions (a list of conditions, the first that fails). Theorems has the three theorems. Laws:
+-- Meaning: Demands (the three demands, sentence by sentence, and every end from one start), in the words of Marks (which sheets bind), Fields and Asked (what each refusal is for) and Calls (the
+-- answers to a list of reports, and true labs), with Conditions (a list of conditions, the first that fails). Theorems has the theorems. Laws:
 -- the others lead to them; Witnesses shows on book A that demand 3's premises can be met. Nothing stands on this crate.
 pub mod Marks
 pub mod Conditions

@@ -1,9 +1,12 @@
--- Demand 2, proved: two books that differ only in the order of their sheets have equal plans, counts of known runs, and trials.
-use Prim.Native.Nat.{ℕ, _≤_}
+-- Demand 2, proved: two books that differ only in the order of their sheets have equal plans, counts of known runs, tables of ends, and trials.
+use Prim.Native.Nat.{ℕ, zero, suc, _*_, _≤_}
 use mathlib.Core.Path.{_≡_, refl, sym, ap, ap₂, subst, subst₂, _∙_}
-use mathlib.Core.List.{List, _++_}
+use mathlib.Core.Bool.{true}
+use mathlib.Core.List.{List, [], _∷_, _++_}
 use mathlib.Core.Option.{Option, none, some}
 use native.Mathlib.Omega.{arith}
+use borrow.Author.Tests.{le-leb}
+use lib.Dec.{leb, ltb}
 use lib.ListN.{length, drop}
 use lib.Seq.{drop-at}
 use Rattle.limits.specs.Limits.{mostVertices, areaSize}
@@ -13,20 +16,22 @@ use Rattle.walks.specs.Avoid.{_⊆_}
 use Rattle.walks.specs.Best.{Best·unique, Best·not-None, Best·same-set}
 use Rattle.states.specs.Chosen.{Decided, chosen, chosen-is}
 use Rattle.book.specs.declared.Refusal.{Refusal}
-use Rattle.book.specs.Refusal.{refusalBy}
+use Rattle.book.specs.Refusal.{test, refusalBy}
 use Rattle.book.specs.Book.{Book, WellFormed, graph}
 use Rattle.book.specs.BookLaws.{reading-is-book}
-use Rattle.book.specs.Reading.{accepted, reading}
+use Rattle.book.specs.Reading.{accepted, reading, bookIn}
 use Rattle.rules.specs.declared.Bound.{Bound}
 use Rattle.rules.specs.Binding.{known}
-use Rattle.rules.specs.Area.{written, spelled}
+use Rattle.rules.specs.Area.{written, spelled, valid}
 use Rattle.rules.specs.Operations.{boundAs, binding, areaAfter}
-use Rattle.rules.specs.Laws.{same-set}
+use Rattle.rules.specs.Laws.{same-set, bind-accepted}
 use Rattle.rules.specs.ValidLaws.{written-length, written-spells}
 use Rattle.walk_check.specs.Laws.{sizes}
 use Rattle.planner.specs.declared.Outcome.{Outcome}
 use Rattle.planner.specs.Planning.{Planning}
 use Rattle.planner.specs.RuleSets.{Reordered, order-of-sets}
+use Rattle.ends.specs.Ends.{entryOf, ends}
+use Rattle.reach.specs.Reaching.{reachTests, answerBy, tableBy, reached, tableAfter}
 use Rattle.trial_record.specs.declared.Record.{Record}
 use Rattle.trial_rules.specs.Trials.{ForbiddenSet, stageOf, litresOf, lengthOf, overlaid, beginTests, begin}
 use Rattle.trial_rules.specs.Tests.{set-paths, set-once}
@@ -85,9 +90,42 @@ module _
           beyond = area-beyond (g .count) F F-set rest ∙ sym (area-beyond (g .count) G G-set rest);
         }
 
+-- ---- the table of ends, under two lists of the same paths
+ends-same : (g : Graph) (F G : List (List ℕ)) (s n : ℕ) → ((t : ℕ) → chosen g F s t ≡ chosen g G s t) → ends g F s n ≡ ends g G s n
+unfolding ends
+ends-same g F G s zero same = refl
+ends-same g F G s (suc n) same = ap₂ (λ l o. l ++ entryOf g o) (ends-same g F G s n same) (same n)
+
+tables-same : (g : Graph) (F G : List (List ℕ)) (s : ℕ) (old : List ℕ) → ((t : ℕ) → chosen g F s t ≡ chosen g G s t) → (x : Option Refusal)
+    → tableBy x g F s old ≡ tableBy x g G s old
+tables-same g F G s old same none = ap (λ l. l ++ drop (2 * g .count) old) (ends-same g F G s (g .count) same)
+tables-same g F G s old same (some x) = refl
+
+-- Under what binding left, only the table's length and the start can be refused.
+abbrev left-refusal : ℕ → List ℕ → ℕ → Option Refusal
+left-refusal start table count = refusalBy (test 8 (leb (2 * count) (length table)) ∷ test 7 (ltb start count) ∷ [])
+
+module _ (s : List ℕ) (b : Book) (read : reading s ≡ accepted b) (flags : ℕ) (area : List ℕ) (fits : areaSize ≤ length area) (n : ℕ)
+    (is : boundAs (binding s flags area) ≡ Bound.Known n) (start : ℕ) (table : List ℕ) where
+  abbrev after : List ℕ
+  after = areaAfter (binding s flags area) area
+
+  reach-known : (reached (reading s) after n start table ≡ answerBy (left-refusal start table (b .count)) (graph b))
+      × (tableAfter (reading s) after n start table ≡ tableBy (left-refusal start table (b .count)) (graph b) (known flags (b .sets)) start table)
+  reach-known =
+      let F = known flags (b .sets) in
+      let f = bind-accepted s flags area F (binds s b read flags area fits) in
+      let n-is : n ≡ length F = count-is s b read flags area fits n is in
+      let runs : valid (b .count) after n ≡ true =
+      ap (valid (b .count) after) n-is ∙ subst (λ (x : Book). valid (x .count) after (length F) ≡ true) (ap bookIn (sym (f .read) ∙ read)) (f .validity) in
+      let refusal : refusalBy (reachTests after n start table b) ≡ left-refusal start table (b .count) = rw (le-leb areaSize (length after) (f .long), runs) refl in (
+        ap (λ x. reached x after n start table) read ∙ ap (λ o. answerBy o (graph b)) refusal,
+        ap (λ x. tableAfter x after n start table) read ∙ ap₂ (λ o G. tableBy o (graph b) G start table) refusal (ap (λ k. spelled k after) n-is ∙ f .spells),
+      )
+
 -- ---- the theorem
 pub same-answers : (s s′ : List ℕ) (b c : Book) → reading s ≡ accepted b → reading s′ ≡ accepted c → Reordered b c → SameAnswers s s′
-same-answers s s′ b c read read′ o = record { counts = counts; plans = plans; trials = trials }
+same-answers s s′ b c read read′ o = record { counts = counts; plans = plans; tables = tables; trials = trials }
   where
     well : WellFormed b
     well = reading-is-book s b read .well-formed
@@ -120,6 +158,31 @@ same-answers s s′ b c read read′ o = record { counts = counts; plans = plans
         (subst (λ m. Planning s (areaAfter (binding s flags area) area) m start end old r new) (count-is s b read flags area fits n is) p)
         (subst (λ m. Planning s′ (areaAfter (binding s′ flags area′) area′) m start end old r′ new′) (count-is s′ c read′ flags area′ fits′ n′ is′) p′)
 
+    same-choice : (flags start end : ℕ) → chosen (graph b) (known flags (b .sets)) start end ≡ chosen (graph b) (known flags (c .sets)) start end
+    same-choice flags start end =
+        let F = known flags (b .sets) in
+        let G = known flags (c .sets) in
+        let (more, less) = same-set flags b c (o .sets) in
+        let g = graph b in
+        one-choice g F G more less start end (chosen g F start end) (chosen g G start end)
+        (decides g F (well .few-vertices) (known-set flags b well) start end) (decides g G (well .few-vertices) (G-set flags) start end)
+
+    tables : (flags : ℕ) (area area′ : List ℕ) → areaSize ≤ length area → areaSize ≤ length area′
+        → (n n′ : ℕ) → boundAs (binding s flags area) ≡ Bound.Known n → boundAs (binding s′ flags area′) ≡ Bound.Known n′
+        → (start : ℕ) (table : List ℕ)
+        → (reached (reading s) (areaAfter (binding s flags area) area) n start table ≡ reached (reading s′) (areaAfter (binding s′ flags area′) area′) n′ start table)
+        × (tableAfter (reading s) (areaAfter (binding s flags area) area) n start table ≡ tableAfter (reading s′) (areaAfter (binding s′ flags area′) area′) n′ start table)
+    tables flags area area′ fits fits′ n n′ is is′ start table =
+        let F = known flags (b .sets) in
+        let G = known flags (c .sets) in
+        let (answer, numbers) = reach-known s b read flags area fits n is start table in
+        let (answer′, numbers′) = reach-known s′ c read′ flags area′ fits′ n′ is′ start table in (
+          answer ∙ sym (answer′ ∙ ap₂ (λ k h. answerBy (left-refusal start table k) h) (o .counts) same-graph),
+          numbers
+              ∙ tables-same (graph b) F G start table (same-choice flags start) (left-refusal start table (b .count))
+              ∙ sym (numbers′ ∙ ap₂ (λ k h. tableBy (left-refusal start table k) h G start table) (o .counts) same-graph),
+        )
+
     trials : (flags start end : ℕ) (paths walk : List ℕ) → SameTrials (beginning s flags start end paths walk) (beginning s′ flags start end paths walk)
     trials flags start end paths walk =
         let F = known flags (b .sets) in
@@ -127,9 +190,7 @@ same-answers s s′ b c read read′ o = record { counts = counts; plans = plans
         let (more, less) = same-set flags b c (o .sets) in
         let g = graph b in
         let F-set = known-set flags b well in
-        let same-choice : chosen g F start end ≡ chosen g G start end =
-        one-choice g F G more less start end (chosen g F start end) (chosen g G start end) (decides g F (well .few-vertices) F-set start end) (decides g G (well .few-vertices) (G-set flags) start end) in
         let begins : (h : Graph) → List (List ℕ) → Leaves Begun = λ h H. begunAs (refusalBy (beginTests h start end paths walk)) (begin h (chosen h) H start end paths walk) paths walk in
         let left : beginning s flags start end paths walk ≡ begins g F = ap (λ x. beginningOf x flags start end paths walk) read in
         let right : beginning s′ flags start end paths walk ≡ begins g G = ap (λ x. beginningOf x flags start end paths walk) read′ ∙ ap (λ h. begins h G) same-graph in
-        subst₂ SameTrials (sym left) (sym right) (same-begun g F G more less F-set (G-set flags) start end same-choice paths walk (refusalBy (beginTests g start end paths walk)))
+        subst₂ SameTrials (sym left) (sym right) (same-begun g F G more less F-set (G-set flags) start end (same-choice flags start end) paths walk (refusalBy (beginTests g start end paths walk)))

@@ -1,4 +1,4 @@
--- The three demands hold, and what request 1 adds to the second.
+-- The three demands hold, and what 02, order 1, adds to the second.
 use Rattle.book_bytes.specs.BytesLaws.{bytes-below}
 use Rattle.book_bytes.specs.Longest.{fullBook, full-keeps, full-length}
 use Rattle.book_bytes.specs.LongBook.{longest-book}

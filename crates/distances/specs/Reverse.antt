@@ -4,7 +4,7 @@ use mathlib.Core.Path.{_≡_, refl, sym, ap, _∙_, subst}
 use mathlib.Core.List.{List, [], _∷_, _++_, map, Memᴰ·map, Memᴰ·of-map}
 use native.Mathlib.Omega.{arith}
 use lib.ListN.{length, length-append}
-use Rattle.distances.specs.Edge.{Edge, _∈_, edges, Path, total, cost, Within}
+use Rattle.distances.specs.Edge.{Edge, _∈_, Path, total, cost, Within}
 use Rattle.distances.specs.Table.{at, Least}
 
 abbrev pub swap : Edge → Edge
@@ -12,14 +12,6 @@ swap e = record { tail = e .head; head = e .tail; cost = e .cost }
 
 abbrev pub swapped : List Edge → List Edge
 swapped es = map swap es
-
--- swapping the columns swaps the graph
-pub edges-swapped : (tails heads costs : List ℕ) → edges heads tails costs ≡ swapped (edges tails heads costs)
-edges-swapped [] [] costs = refl
-edges-swapped [] (h ∷ heads) costs = refl
-edges-swapped (t ∷ tails) [] costs = refl
-edges-swapped (t ∷ tails) (h ∷ heads) [] = refl
-edges-swapped (t ∷ tails) (h ∷ heads) (c ∷ costs) = ap (λ l. record { tail = h; head = t; cost = c } ∷ l) (edges-swapped tails heads costs)
 
 pub within-swapped : {n : ℕ} {es : List Edge} → Within n es → Within n (swapped es)
 within-swapped {n} {es} w e m = let (x, i, is) = Memᴰ·of-map swap es m in rw (← is) (w x i .1, w x i .0)

@@ -12,7 +12,8 @@ use Rattle.walks.specs.Best.{None}
 use Rattle.states.specs.Chosen.{chosen}
 use Rattle.book.specs.Refusal.{refusalBy}
 use Rattle.book.specs.RefusalLaws.{hold→none}
-use Rattle.book.specs.Book.{Book, graph}
+use Rattle.book.specs.Book.{Book, IsPath, graph}
+use Rattle.book.specs.BookLaws.{all-member}
 use Rattle.book.specs.Reading.{accepted, reading, bookIn}
 use Rattle.rules.specs.Binding.{covers, applied, known}
 use Rattle.rules.specs.BindingLaws.{known-few, known-paths}
@@ -26,7 +27,6 @@ use Rattle.reach.specs.declared.Reached.the-variants.{Filled}
 use Rattle.reach.specs.Reaching.{reachTests, answerBy, tableBy, reached, tableAfter}
 use Rattle.examples.specs.Books.{bytesA, bookA, book-A}
 use Rattle.examples.specs.Walks.{Plan, marks-3, best-to-1, best-to-2, none-to-0, none-to-1, none-to-2}
-use Rattle.examples.specs.Plans.{each}
 use Rattle.examples.specs.Sums.{graphA, binds, well-A}
 
 -- The book binds, and under the known runs F the call from `start` fills the table for n vertices with these numbers; those after them are as lent.
@@ -73,7 +73,7 @@ few : length known-3 ≤ mostPaths
 few = known-few 3 bookA well-A
 
 short : (r : List ℕ) → List·Memᴰ r known-3 → length r ≤ longestPath
-short r m = each (known-paths 3 bookA well-A) m .eight
+short r m = all-member (IsPath 4) known-3 (known-paths 3 bookA well-A) r m .eight
 
 abbrev entry : ℕ → ℕ → List ℕ
 entry s t = entryOf graphA (chosen graphA known-3 s t)
@@ -85,7 +85,7 @@ off : {s t : ℕ} → None graphA known-3 s t → entry s t ≡ noEnd ∷ noEnd 
 off {s} {t} n = entry-none graphA known-3 s t (omega arith) few short n
 
 own : (s : ℕ) → s < 4 → entry s s ≡ 0 ∷ 0 ∷ []
-own s h = entry-start graphA known-3 s (omega arith) few short (λ r m. each (known-paths 3 bookA well-A) m .two) h
+own s h = entry-start graphA known-3 s (omega arith) few short (λ r m. all-member (IsPath 4) known-3 (known-paths 3 bookA well-A) r m .two) h
 
 -- the table is its four entries
 four : (s : ℕ) {a b c d : List ℕ} → entry s 0 ≡ a → entry s 1 ≡ b → entry s 2 ≡ c → entry s 3 ≡ d → ends graphA known-3 s 4 ≡ ((a ++ b) ++ c) ++ d

@@ -2,14 +2,14 @@
 use Prim.Native.Nat.{ℕ, _≤_}
 use mathlib.Core.Path.{_≡_, refl, sym, ap, subst, _∙_}
 use mathlib.Core.Bool.{true}
-use mathlib.Core.List.{List, [], _∷_, _++_, List·Memᴰ, List·Memᴰ·head, List·Memᴰ·tail, List·Memᴰ·not-nil}
+use mathlib.Core.List.{List, [], _∷_, _++_, List·Memᴰ·not-nil}
 use mathlib.Core.Option.{none}
 use borrow.Author.Tests.{le-leb}
 use lib.Dec.{ltb}
 use lib.ListN.{length, drop}
 use Rattle.walks.specs.Best.{None, None·mono}
-use Rattle.book.specs.Book.{Book, All, IsPath, WellFormed, graph}
-use Rattle.book.specs.BookLaws.{reading-is-book}
+use Rattle.book.specs.Book.{Book, IsPath, WellFormed, graph}
+use Rattle.book.specs.BookLaws.{reading-is-book, all-member}
 use Rattle.examples.specs.Books.{bytesA, bookA, book-A, bytesWays, bookWays, book-ways, bytesShortcut, bookShortcut, book-shortcut}
 use Rattle.book.specs.Reading.{accepted, reading, refusalOf, bookIn}
 use Rattle.book.specs.Refusal.{refusalBy}
@@ -67,10 +67,6 @@ module _ (s : List ℕ) (b : Book) (read : reading s ≡ accepted b) (flags star
 well-A : WellFormed bookA
 well-A = reading-is-book bytesA bookA book-A .well-formed
 
-pub each : {F : List (List ℕ)} {r : List ℕ} → All (IsPath 4) F → List·Memᴰ r F → IsPath 4 r
-each h (List·Memᴰ·head e) = rw e (h .0)
-each h (List·Memᴰ·tail m) = each (h .1) m
-
 pub record Sums : Type 0 where
   pub marks-0 : Gives bytesA 0 0 3 (Walk 300 3) (0 ∷ 1 ∷ 2 ∷ 3 ∷ [])
   pub marks-1 : Gives bytesA 1 0 3 (Walk 350 2) (0 ∷ 2 ∷ 3 ∷ [])
@@ -90,7 +86,7 @@ sums =
       marks-2 = walk-given bytesA bookA book-A 2 0 3 refl refl _ 300 3 marks-2;
       marks-3 = walk-given bytesA bookA book-A 3 0 3 refl refl _ 450 5 marks-3;
       back = λ flags. none-given bytesA bookA book-A flags 3 0 refl refl (None·mono (λ r m. absurd (List·Memᴰ·not-nil m)) back);
-      stay = λ flags. walk-given bytesA bookA book-A flags 3 3 refl refl _ 0 0 (stay (known flags (bookA .sets)) (λ r m. each (known-paths flags bookA well-A) m .two));
+      stay = λ flags. walk-given bytesA bookA book-A flags 3 3 refl refl _ 0 0 (stay (known flags (bookA .sets)) (λ r m. all-member (IsPath 4) _ (known-paths flags bookA well-A) r m .two));
       lower-vertex = λ flags. walk-given bytesWays bookWays book-ways flags 0 3 refl refl _ 200 2 lower-vertex;
       fewer-hops = λ flags. walk-given bytesShortcut bookShortcut book-shortcut flags 0 3 refl refl _ 200 1 fewer-hops;
     }

@@ -1,12 +1,11 @@
 -- A valid runs area spells its forbidden set, as the automaton's builder reads it.
 use Prim.Native.Nat.{ℕ, _-_, _≤_, _<_}
-use mathlib.Core.List.{List, [], _∷_, _++_, append-assoc, List·Memᴰ, List·Memᴰ·cases-cons, List·Memᴰ·not-nil}
-use mathlib.Core.Logic.{⊎-elim}
+use mathlib.Core.List.{List, [], _∷_, _++_, append-assoc}
 use mathlib.Core.Path.{_≡_, sym, ap, subst, _∙_}
 use native.Mathlib.Omega.{arith}
 use lib.ListN.{length, drop, replicate, take-append-drop, length-replicate, length-map}
 use Rattle.book.specs.Book.{All, IsPath}
-use Rattle.book.specs.BookLaws.{all-map}
+use Rattle.book.specs.BookLaws.{all-map, all-member}
 use Rattle.book.specs.Tables.{entries}
 use Rattle.book.specs.EntryLaws.{Short, entries-induction}
 use Rattle.rules.specs.Area.{spelled, blocks}
@@ -20,10 +19,6 @@ spells-entries : (F : List (List ℕ)) (rest : List ℕ) → All Short F → Spe
 spells-entries F rest short =
     entries-induction (λ l G. Spells l (length G) G) rest (spells-nil rest)
     (λ p G l h s. spells-cons p (replicate (8 - length p) 0) l (length G) G (omega (arith, length-replicate {A = ℕ} (8 - length p) 0)) s) F short
-
-pub all-member : {A : Type 0} (P : A → Type 0) (xs : List A) → All P xs → (x : A) → List·Memᴰ x xs → P x
-all-member P [] h x m = absurd (List·Memᴰ·not-nil m)
-all-member P (y ∷ xs) h x m = ⊎-elim (λ e. subst P (sym e) (h .0)) (all-member P xs (h .1) x) (List·Memᴰ·cases-cons m)
 
 module _ (n : ℕ) (area : List ℕ) (count : ℕ) (few : n ≤ 64) (v : Valid n area count) where
   F : List (List ℕ)

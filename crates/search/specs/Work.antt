@@ -79,9 +79,6 @@ module _ {paths : List ℕ} {count vertices m : ℕ} {F : List (List ℕ)} {step
       back-front : take m (x ++ drop m table) ≡ x
       back-front = take-at x (drop m table) m (same ∙ front-length)
 
-      pub back-count : m ≡ length (take m (x ++ drop m table))
-      back-count = sym (ap length back-front ∙ same ∙ front-length)
-
       pub back-measured : {g : Graph} {weights : List ℕ} → g .count ≡ vertices → Weights g weights → (towards : Bool) (v : ℕ)
           → x ≡ passes (directed towards (stateEdges weights steps blockeds latests vertices (length (take m table)))) (length (take m table)) (base towards latests v (length (take m table)))
           → Measured towards g F vertices v weights steps blockeds latests (take m (x ++ drop m table))

@@ -1,8 +1,10 @@
 // Cases of the table of ends: the text of a board; and single calls with a runs area and a table of any length and content, which print the
 // answer and every number that the call changed.
 //
-// The case of a board is the input of the program `board`. The case of a call is a head of 22 bytes (start, the count of known paths, and the lengths), what is given of the runs area and of the table, and
-// the book.
+// The case of a board is the input of the program `board`. The case of a call is a head of 22 bytes, what is given of the runs area
+// and of the table, and the book. The head: start; the count of known paths in eight bytes; how many bytes of the area are given
+// and how many follow in two each, and the byte that they are; how many numbers of the table are given and how many follow in two
+// each, and the number that they are in four.
 ghost use Prim.Native.Nat.{_+_, _*_, _≤_};
 ghost use mathlib.Core.Path.{_≡_};
 ghost use lib.ListN.{length};

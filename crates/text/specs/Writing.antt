@@ -5,7 +5,7 @@ use mathlib.Core.List.{List, [], _∷_, _++_}
 use native.Mathlib.Omega.{arith}
 use native.Mathlib.Numerals.{add-one}
 use lib.ListN.{length, set, take, drop, getD, length-append}
-use lib.Seq.{sets, sets-eq, length-sets, take-suc}
+use lib.Seq.{sets, sets-eq, length-sets, take-suc, take-at}
 use Rattle.routes.specs.declared.Found.{Found}
 use Rattle.routes.specs.declared.Found.the-variants.{Walk, Nothing}
 
@@ -66,3 +66,14 @@ pub wrote-front : {t : List ℕ} {r : ℕ} {old new : List ℕ} → Wrote t 0 ol
 wrote-front {t} {r} {old} {new} w =
     let size : r ≡ length t = omega (arith, w .place) in
     (size, w .bytes ∙ sets-eq t old 0 (omega (arith, w .fits, w .place)) ∙ ap (λ k. t ++ drop k old) (sym (w .place)))
+
+-- The first r bytes are the text then.
+module _ (t old : List ℕ) {r : ℕ} {new : List ℕ} (size : r ≡ length t) (bytes : new ≡ t ++ drop r old) where
+  pub front-text : take r new ≡ t
+  front-text = ap (take r) bytes ∙ take-at t (drop r old) r (sym size)
+
+  pub front-size : r ≡ length (take r new)
+  front-size = size ∙ ap length (sym front-text)
+
+  pub front-within : r ≤ length new
+  front-within = omega (arith, size, ap length bytes ∙ length-append t (drop r old))
