@@ -8,10 +8,12 @@ use Rattle.limits.specs.Limits.{mostVertices, mostSets, mostPaths, areaSize}
 use Rattle.book.specs.declared.Answer.{Answer}
 use Rattle.book.specs.declared.Answer.the-variants.{Read}
 use Rattle.book.specs.declared.Counts.{Counts}
-use Rattle.book.specs.Book.{Book, RuleSet, All, allPaths, counts}
+use Rattle.walks.specs.Weights.{Weights}
+use Rattle.book.specs.Book.{Book, RuleSet, All, allPaths, counts, graph}
 use Rattle.book.specs.BookLaws.{answer-read, all-map}
 use Rattle.book.specs.Reading.{accepted, reading, readAs}
 use Rattle.book.specs.Tables.{IsGraph, IsSets, IsLoaded, entries, ownersFrom, ownerTable}
+use Rattle.book.specs.TableLaws.{book-weights}
 use Rattle.book.specs.EntryLaws.{Short, length-padded, length-entries}
 
 -- the book that was loaded
@@ -28,6 +30,9 @@ loaded s r c w f o p answered tables read =
 
 pub graph-few : {b : Book} {n : ℕ} {w : List ℕ} → IsGraph b n w → n ≤ mostVertices
 graph-few g = omega (arith, g .vertices-are, g .well .few-vertices)
+
+pub graph-weights : {b : Book} {n : ℕ} {w : List ℕ} → IsGraph b n w → Weights (graph b) w
+graph-weights {b} g = subst (Weights (graph b)) (sym (g .weights-are)) (book-weights b (g .well))
 
 -- each path has the index of one of the rule sets
 zeros-after : (l : List ℕ) (m i : ℕ) → getD (l ++ replicate m 0) i 0 ≡ getD l i 0

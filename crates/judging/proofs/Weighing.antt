@@ -3,7 +3,7 @@ use Prim.Native.Nat.{ℕ, _+_, _*_, _≤_, _<_}
 use mathlib.Core.Bool.{true, _&&_, true≢false}
 use mathlib.Core.List.{List, [], _∷_}
 use mathlib.Core.Option.{Option, none, some, Option·getD}
-use mathlib.Core.Path.{_≡_, refl, sym, ap, subst, _∙_}
+use mathlib.Core.Path.{_≡_, refl, sym, ap, _∙_}
 use native.Mathlib.Numerals.{add-one}
 use native.Mathlib.Omega.{arith}
 use borrow.Author.Tests.{ltb-true}
@@ -13,11 +13,8 @@ use lib.Seq.{drop-cons}
 use Rattle.lists.specs.Test.{and-true}
 use Rattle.walks.specs.Graph.{Graph, isSome, isArc, arcWeight}
 use Rattle.walks.specs.Walk.{isWalk, isWalkFrom, weightOf, weightFrom}
-use Rattle.book.specs.Book.{Book, graph}
 use Rattle.limits.specs.Limits.{noArc}
 use Rattle.walks.specs.Weights.{Weights}
-use Rattle.book.specs.TableLaws.{book-weights}
-use Rattle.book.specs.Tables.{IsGraph}
 
 -- What has been weighed of a walk at u, its vertex before place i: the sum and the weight of what is left are the walk's.
 pub record Weighed (g : Graph) (w : List ℕ) (sum u i : ℕ) : Type 0 where
@@ -25,10 +22,6 @@ pub record Weighed (g : Graph) (w : List ℕ) (sum u i : ℕ) : Type 0 where
   pub goes-on : isWalkFrom g u (drop i w) ≡ true
   pub weight-is : sum + weightFrom g u (drop i w) ≡ weightOf g w
   pub light : sum ≤ i * 1000000
-
--- the table of the book that has been read
-pub of-weights : {b : Book} {vertices : ℕ} {weights : List ℕ} → IsGraph b vertices weights → Weights (graph b) weights
-of-weights {b} {vertices} {weights} is = subst (Weights (graph b)) (sym (is .weights-are)) (book-weights b (is .well))
 
 pub nonempty : (g : Graph) (w : List ℕ) → isWalk g w ≡ true → 0 < length w
 nonempty g [] e = absurd (true≢false (sym e))

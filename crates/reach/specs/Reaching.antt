@@ -6,8 +6,6 @@ use mathlib.Core.Option.{Option, none, some}
 use lib.Dec.{leb, ltb}
 use lib.ListN.{length, drop}
 use Rattle.walks.specs.Graph.{Graph}
-use Rattle.walks.specs.Weights.{Weights}
-use Rattle.automaton.specs.Area.{Spells, Bounded}
 use Rattle.book.specs.declared.Refusal.{Refusal}
 use Rattle.book.specs.Refusal.{Test, test}
 use Rattle.book.specs.Book.{Book, graph}
@@ -45,9 +43,3 @@ tableAfter x paths count start old = tableBy (refusalOf x (reachTests paths coun
 
 abbrev pub Reaching : Reading → List ℕ → ℕ → ℕ → List ℕ → Reached → List ℕ → Type 0
 Reaching x paths count start old r new = (r ≡ reached x paths count start old) × (new ≡ tableAfter x paths count start old)
-
--- The entries, for each graph and forbidden set that weights and bytes stand for.
-abbrev pub EndsAll : List ℕ → ℕ → List ℕ → ℕ → ℕ → List ℕ → List ℕ → Type 0
-EndsAll weights vertices paths count start old new =
-    (g : Graph) (F : List (List ℕ)) → g .count ≡ vertices → Weights g weights → Spells paths count F → Bounded vertices F
-    → new ≡ ends g F start vertices ++ drop (2 * vertices) old

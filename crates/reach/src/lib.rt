@@ -4,29 +4,20 @@ ghost use mathlib.Core.Bool.{true};
 ghost use mathlib.Core.List.{_++_};
 ghost use Prim.Native.Nat.{_*_, _<_, _≤_};
 ghost use lib.ListN.{length, drop};
-ghost use Rattle.walks.specs.Graph.{Graph};
-ghost use Rattle.walks.specs.Weights.{Weights};
-ghost use Rattle.automaton.specs.Area.{Given};
-ghost use Rattle.states.specs.Count.{statesOf};
 ghost use Rattle.book.specs.Book.{Book, graph};
 ghost use Rattle.book.specs.Reading.{accepted, reading};
 ghost use Rattle.book.specs.Tables.{IsGraph};
 ghost use Rattle.rules.specs.Area.{spelled, valid};
-ghost use Rattle.search.specs.Work.{Work};
 ghost use Rattle.ends.specs.Ends.{ends};
-ghost use Rattle.reach.specs.Reaching.{Reaching, EndsAll};
-use automaton::STATES;
-use automaton::STEPS;
+ghost use Rattle.reach.specs.Reaching.{Reaching};
 use book::Answer;
 use book::Refusal;
-use distances::INF;
-use ends::fill_ends;
+use end_search::search_ends;
 use limits::AREA;
 use limits::MOST_PATHS;
 use limits::MOST_SETS;
 use limits::NO_ARC;
 use limits::PAIRS;
-use search::measure;
 
 // The table is filled for that many vertices; or the call is refused.
 pub enum Reached {
@@ -78,7 +69,7 @@ fn reach_in(
     Reached::Filled(vertices)
 }
 
-// The same where nothing is to be refused, with work tables of its own.
+// The same where nothing is to be refused.
 pub fn fill(
     weights: &[u32; PAIRS],
     vertices: usize,
@@ -92,78 +83,5 @@ pub fn fill(
     requires { ⌜ (start < vertices) × (2 * vertices ≤ length (now table)) ⌝ }
     ensures { λ _. ⌜ ((b : Book) → IsGraph b vertices (now (weights .entry)) → now (table .exit) ≡ ends (graph b) (spelled count (now (paths .entry))) start vertices ++ drop (2 * vertices) (now (table .entry))) ⌝ }
 {
-    let mut steps = [0u16; STEPS];
-    let mut blocked = [0u64; STATES];
-    let mut latest = [0u8; STATES];
-    let mut tails = [0u16; STEPS];
-    let mut heads = [0u16; STEPS];
-    let mut costs = [0u32; STEPS];
-    let mut first = [0u32; STATES];
-    let mut next = [0u32; STEPS];
-    let mut seen = [INF; STATES];
-    let mut distances = [0u64; STATES];
-    fill_in(
-        weights,
-        vertices,
-        paths,
-        count,
-        start,
-        table,
-        &mut steps,
-        &mut blocked,
-        &mut latest,
-        &mut tails,
-        &mut heads,
-        &mut costs,
-        &mut first,
-        &mut next,
-        &mut seen,
-        &mut distances,
-    )
-}
-
-// The same in given work tables: the distances from the start, and the entry of each vertex read off them.
-fn fill_in(
-    weights: &[u32; PAIRS],
-    vertices: usize,
-    paths: &[u8],
-    count: usize,
-    start: u8,
-    table: &mut [u32],
-    steps: &mut [u16],
-    blocked: &mut [u64],
-    latest: &mut [u8],
-    tails: &mut [u16],
-    heads: &mut [u16],
-    costs: &mut [u32],
-    first: &mut [u32],
-    next: &mut [u32],
-    seen: &mut [u64],
-    distances: &mut [u64],
-)
-    requires { ⌜ Given (now paths) count vertices ⌝ }
-    requires { ⌜ ((g : Graph) × (g .count ≡ vertices) × Weights g (now weights)) ⌝ }
-    requires { ⌜ (start < vertices) × (2 * vertices ≤ length (now table)) ⌝ }
-    requires { ⌜ Work (statesOf vertices count) (now steps) (now blocked) (now latest) (now tails) (now heads) (now costs) (now first) (now next) (now seen) (now distances) ⌝ }
-    ensures { λ _. ⌜ EndsAll (now (weights .entry)) vertices (now (paths .entry)) count start (now (table .entry)) (now (table .exit)) ⌝ }
-{
-    let states = measure(
-        weights,
-        vertices,
-        paths,
-        count,
-        false,
-        start,
-        steps,
-        blocked,
-        latest,
-        tails,
-        heads,
-        costs,
-        first,
-        next,
-        seen,
-        distances,
-    );
-    fill_ends(vertices, latest, &distances[..states], table)
+    search_ends(weights, vertices, paths, count, start, table)
 }

@@ -7,8 +7,9 @@ use denote.Ref.{now}
 use lib.ListN.{length, getD}
 use Rattle.walks.specs.Walk.{isWalk}
 use Rattle.book.specs.Book.{Book, graph}
+use Rattle.book.specs.Loaded.{graph-weights}
 use Rattle.book.specs.Tables.{IsGraph}
-use Rattle.judging.proofs.Weighing.{Weighed, of-weights, nonempty, start-weighed, next-weighed, next-below, entry-light, end-weighed}
+use Rattle.judging.proofs.Weighing.{Weighed, nonempty, start-weighed, next-weighed, next-below, entry-light, end-weighed}
 use borrow.Author.Needs.{needs}
 use Rattle.judging.proofs.weigh.Statement.{statement}
 use Rattle.judging.proofs.weigh.Tie as tie
@@ -54,8 +55,8 @@ small c =
     let held = at-loop .loop .inv .1 b is walks in
     let more = c .before .loop-test .taken in (
       omega (arith, held .below, is .well .few-vertices),
-      omega (arith, next-below (graph b) w _ _ _ held (now (start .args .weights)) (of-weights is) more, is .well .few-vertices),
-      entry-light (graph b) w _ _ _ held (now (start .args .weights)) (of-weights is) more,
+      omega (arith, next-below (graph b) w _ _ _ held (now (start .args .weights)) (graph-weights is) more, is .well .few-vertices),
+      entry-light (graph b) w _ _ _ held (now (start .args .weights)) (graph-weights is) more,
       held .light,
       start .pre .1,
     )
@@ -90,7 +91,7 @@ loop-again c =
     let a = at-loop .before .before .args in
     let more = c .before .before .loop-test .taken in (
       omega arith,
-      λ b is walks. next-weighed (graph b) (now (a .walk)) (at-loop .loop .sum) (at-loop .loop .u) (at-loop .loop .i) (at-loop .loop .inv .1 b is walks) (now (a .weights)) (of-weights is) more,
+      λ b is walks. next-weighed (graph b) (now (a .walk)) (at-loop .loop .sum) (at-loop .loop .u) (at-loop .loop .i) (at-loop .loop .inv .1 b is walks) (now (a .weights)) (graph-weights is) more,
     )
 
 returns : tie.Need-returns Inv-loop μ-loop

@@ -1,28 +1,21 @@
 -- `find` meets its contract: the runs area spells its paths, and the table is that of the book's graph.
 use borrow.Author.Needs.{needs}
 use denote.Ref.{now}
-use mathlib.Core.Path.{sym, subst}
-use Rattle.book.specs.Book.{Book, graph}
-use Rattle.book.specs.Loaded.{graph-few}
-use Rattle.book.specs.Tables.{IsGraph}
+use mathlib.Core.Path.{sym}
+use Rattle.book.specs.Book.{graph}
+use Rattle.book.specs.Loaded.{graph-few, graph-weights}
 use Rattle.rules.specs.Area.{spelled}
 use Rattle.rules.specs.ValidLaws.{valid→Valid}
-use Rattle.walks.specs.Weights.{Weights}
-use Rattle.book.specs.TableLaws.{book-weights}
 use Rattle.planner.specs.ValidArea.{valid-spells, valid-bounded, valid-given}
 use Rattle.planner.proofs.find.Statement.{statement}
 use Rattle.planner.proofs.find.Tie as tie
-
--- the table is that of the book's graph
-weights-of : (c : tie.Start) (b : Book) → IsGraph b (c .args .vertices) (now (c .args .weights)) → Weights (graph b) (now (c .args .weights))
-weights-of c b g = subst (Weights (graph b)) (sym (g .weights-are)) (book-weights b (g .well))
 
 best-walk-requires : tie.Need-best-walk-requires
 best-walk-requires c κs =
     let start = c .before .before .before in
     let (b, g) = start .pre .0 in (
       valid-given _ _ _ (graph-few g) (valid→Valid _ _ _ (start .pre .1 .0)),
-      ((graph b, sym (g .vertices-are), weights-of start b g), start .pre .1 .1),
+      ((graph b, sym (g .vertices-are), graph-weights g), start .pre .1 .1),
     )
 
 same-length : tie.Need-same-length
@@ -33,7 +26,7 @@ returns c b g =
     let call = c .before .before in
     let start = call .before .before .before .before in
     let v = valid→Valid _ _ _ (start .pre .1 .0) in
-    call .best-walk .ensures (graph b) (spelled (start .args .count) (now (start .args .paths))) (sym (g .vertices-are)) (weights-of start b g)
+    call .best-walk .ensures (graph b) (spelled (start .args .count) (now (start .args .paths))) (sym (g .vertices-are)) (graph-weights g)
     (valid-spells _ _ _ (graph-few g) v) (valid-bounded _ _ _ (graph-few g) v)
 
 pub find-spec : {M : Type 1} → statement M

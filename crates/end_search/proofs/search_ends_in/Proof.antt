@@ -1,4 +1,4 @@
--- `reach::fill_in` meets its contract. Assumes nothing.
+-- `end_search::search_ends_in` meets its contract. Assumes nothing.
 use Prim.Native.Nat.{_*_}
 use mathlib.Core.List.{_++_}
 use mathlib.Core.Path.{sym, ap, _∙_}
@@ -7,8 +7,8 @@ use lib.ListN.{drop}
 use lib.Seq.{length-take-le}
 use Rattle.ends.specs.Filled.{measured-standing, measured-ends}
 use borrow.Author.Needs.{needs}
-use Rattle.reach.proofs.fill_in.Statement.{statement}
-use Rattle.reach.proofs.fill_in.Tie as tie
+use Rattle.end_search.proofs.search_ends_in.Statement.{statement}
+use Rattle.end_search.proofs.search_ends_in.Tie as tie
 
 abbrev start-of : tie.After-measure → tie.Start
 start-of c = c .before .before .before .before .before .before .before .before .before .before .before .before .before .before .before .before .before .before .before .before .before .before .before
@@ -70,8 +70,8 @@ returns c g F count-is weighed spells bounded =
     c .before .before .fill-ends .ensures
     ∙ ap (λ l. l ++ drop (2 * s .args .vertices) (now (s .args .table))) (measured-ends (m .measure .ensures .1 g F count-is weighed spells bounded) bounded (s .pre .1 .1 .0 .0))
 
-pub fill-in-spec : {M : Type 1} → statement M
-fill-in-spec =
+pub search-ends-in-spec : {M : Type 1} → statement M
+search-ends-in-spec =
     tie.close
     (tie.spec
     measure-requires

@@ -1,0 +1,2 @@
+-- Meaning for this crate's contracts: EndsAll.
+pub mod EndsAll
