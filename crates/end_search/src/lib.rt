@@ -6,14 +6,14 @@ ghost use Rattle.walks.specs.Graph.{Graph};
 ghost use Rattle.walks.specs.Weights.{Weights};
 ghost use Rattle.automaton.specs.Area.{Given};
 ghost use Rattle.states.specs.Count.{statesOf};
-ghost use Rattle.search.specs.Work.{Work};
+ghost use Rattle.measuring.specs.Work.{Work};
 ghost use Rattle.end_search.specs.EndsAll.{EndsAll};
 use automaton::STATES;
 use automaton::STEPS;
 use distances::INF;
 use ends::fill_ends;
 use limits::PAIRS;
-use search::measure;
+use measuring::measure;
 
 // Works out the distances from the start, and reads the entry of each vertex off them.
 fn search_ends_in(

@@ -1,2 +1,2 @@
--- Meaning for this crate's contracts: Work (the work tables of the search).
-pub mod Work
+-- Meaning for this crate's contracts: Usual.
+pub mod Usual

@@ -2,22 +2,22 @@
 // can be.
 ghost use mathlib.Core.Path.{_≡_};
 ghost use Prim.Native.Nat.{_<_, _≤_};
-ghost use lib.ListN.{length, take};
+ghost use lib.ListN.{length};
 ghost use Rattle.walks.specs.Graph.{Graph};
 ghost use Rattle.walks.specs.Weights.{Weights};
 ghost use Rattle.automaton.specs.Area.{Given};
 ghost use Rattle.states.specs.Count.{statesOf, mostStates};
 ghost use Rattle.limits.specs.Limits.{longest};
-ghost use Rattle.routes.specs.Plan.{Asked, SearchedAll, MeasuredAll};
-ghost use Rattle.search.specs.Work.{usualStates, Work};
+ghost use Rattle.routes.specs.Plan.{Asked, SearchedAll};
+ghost use Rattle.measuring.specs.Work.{Work};
+ghost use Rattle.search.specs.Usual.{usualStates};
 use automaton::PREFIXES;
 use automaton::STATES;
 use automaton::STEPS;
-use automaton::build;
 use distances::INF;
 use limits::MOST_VERTICES;
 use limits::PAIRS;
-use product::distances;
+use measuring::measure;
 use routes::Found;
 use routes::least_walk;
 
@@ -26,52 +26,6 @@ use routes::least_walk;
 const USUAL_STATES: usize = 160;
 
 const USUAL_STEPS: usize = USUAL_STATES * MOST_VERTICES;
-
-// Builds the automaton, and works out the distances of its states to a vertex, or from it, in the front of the table. Answers how
-// many states there are. The failure links stand in the column of the tails, which is written later.
-pub fn measure(
-    weights: &[u32; PAIRS],
-    vertices: usize,
-    paths: &[u8],
-    count: usize,
-    towards: bool,
-    vertex: u8,
-    steps: &mut [u16],
-    blocked: &mut [u64],
-    latest: &mut [u8],
-    tails: &mut [u16],
-    heads: &mut [u16],
-    costs: &mut [u32],
-    first: &mut [u32],
-    next: &mut [u32],
-    seen: &mut [u64],
-    table: &mut [u64],
-) -> usize
-    requires { ⌜ Given (now paths) count vertices ⌝ }
-    requires { ⌜ ((g : Graph) × (g .count ≡ vertices) × Weights g (now weights)) ⌝ }
-    requires { ⌜ Work (statesOf vertices count) (now steps) (now blocked) (now latest) (now tails) (now heads) (now costs) (now first) (now next) (now seen) (now table) ⌝ }
-    ensures { λ r. ⌜ r ≤ length (now (table .exit)) ⌝ }
-    ensures { λ r. ⌜ MeasuredAll towards (now (weights .entry)) vertices (now (paths .entry)) count vertex (now (steps .exit)) (now (blocked .exit)) (now (latest .exit)) (take r (now (table .exit))) ⌝ }
-{
-    let states = build(paths, count, vertices, steps, blocked, latest, tails);
-    distances(
-        vertices,
-        towards,
-        vertex,
-        weights,
-        steps,
-        blocked,
-        latest,
-        tails,
-        heads,
-        costs,
-        first,
-        next,
-        seen,
-        &mut table[..states],
-    );
-    states
-}
 
 // Works out the distances to the end, and reads the best walk off them.
 fn search_in(

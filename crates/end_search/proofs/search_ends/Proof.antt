@@ -1,7 +1,7 @@
 -- `end_search::search_ends` meets its contract: the arrays have room for all states. Assumes nothing.
 use native.Mathlib.Omega.{arith}
 use Rattle.states.specs.Count.{mostStates, few-states}
-use Rattle.search.specs.Work.{blank-work}
+use Rattle.measuring.specs.Work.{blank-work}
 use borrow.Author.Needs.{needs}
 use Rattle.end_search.proofs.search_ends.Statement.{statement}
 use Rattle.end_search.proofs.search_ends.Tie as tie

@@ -1,6 +1,6 @@
 -- `search::full_search` meets its contract: the arrays have room for all states. Assumes nothing.
 use Rattle.states.specs.Count.{mostStates}
-use Rattle.search.specs.Work.{blank-work}
+use Rattle.measuring.specs.Work.{blank-work}
 use borrow.Author.Needs.{needs}
 use Rattle.search.proofs.full_search.Statement.{statement}
 use Rattle.search.proofs.full_search.Tie as tie

@@ -1,5 +1,6 @@
 -- `search::usual_search` meets its contract: the arrays have room for a usual number of states. Assumes nothing.
-use Rattle.search.specs.Work.{usualStates, blank-work}
+use Rattle.measuring.specs.Work.{blank-work}
+use Rattle.search.specs.Usual.{usualStates}
 use borrow.Author.Needs.{needs}
 use Rattle.search.proofs.usual_search.Statement.{statement}
 use Rattle.search.proofs.usual_search.Tie as tie

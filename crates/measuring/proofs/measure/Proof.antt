@@ -1,6 +1,6 @@
--- `search::measure` meets its contract: what was built and measured is what was asked for. Assumes nothing.
+-- `measuring::measure` meets its contract: what was built and measured is what was asked for. Assumes nothing.
 use mathlib.Core.List.{List, _++_}
-use mathlib.Core.Path.{_≡_, sym}
+use mathlib.Core.Path.{_≡_, sym, _∙_}
 use native.Mathlib.Omega.{arith}
 use Prim.Native.Nat.{ℕ}
 use lib.ListN.{take, drop}
@@ -9,10 +9,10 @@ use Rattle.walks.specs.Weights.{Weights}
 use Rattle.automaton.specs.Area.{Spells, Bounded}
 use Rattle.automaton.specs.Built.{Built}
 use Rattle.routes.specs.Plan.{prepared-fits, Measured}
-use Rattle.search.specs.Work.{built-counted, front-length, front-prepared, front-edges, back-length, back-measured}
+use Rattle.measuring.specs.Work.{built-counted, front-length, front-prepared, front-edges, back-length, back-measured}
 use borrow.Author.Needs.{needs}
-use Rattle.search.proofs.measure.Statement.{statement}
-use Rattle.search.proofs.measure.Tie as tie
+use Rattle.measuring.proofs.measure.Statement.{statement}
+use Rattle.measuring.proofs.measure.Tie as tie
 
 abbrev start-of : tie.After-build → tie.Start
 start-of c = c .before .before .before .before .before .before .before .before .before .before .before .before .before .before .before .before
@@ -65,34 +65,38 @@ distances-requires c κs =
     (prepared-fits p, (p .built .few, front-edges spells (built b) (s .args .table .now) (s .pre .1 .1 .entries) (s .pre .1 .1 .edges) (b .build .kept .1 .1 .1 .1 .1 .1 .0)))
 
 same-length : tie.Need-same-length
-same-length c = search needs
+same-length c = c .before .before .before .before .before .before .before .before .before .before .before .before .before .before .before .before .before .before .before .before .before .before .before .before .before .before .before .before .before .before .before .before .before .build .kept .1 .1 .1 .0
 
 same-length-2 : tie.Need-same-length-2
-same-length-2 c = search needs
+same-length-2 c = c .before .before .before .before .before .before .before .before .before .before .before .before .before .before .before .before .before .before .before .before .before .before .before .before .before .before .before .before .before .before .before .before .before .build .kept .1 .1 .1 .1 .0
 
 same-length-3 : tie.Need-same-length-3
-same-length-3 c = search needs
+same-length-3 c = c .before .before .before .before .before .before .before .before .before .before .before .before .before .before .before .before .before .before .before .before .before .before .before .before .before .before .before .before .before .before .before .before .before .build .kept .1 .1 .1 .1 .1 .0
 
 same-length-4 : tie.Need-same-length-4
-same-length-4 c = search needs
+same-length-4 c = c .before .before .before .before .before .before .before .before .before .before .before .before .before .before .distances .kept .1 .1 .1 .1 .1 .1 .1 .0 ∙ c .before .before .before .before .before .before .before .before .before .before .before .before .before .before .before .before .before .before .before .before .before .before .before .before .before .before .before .before .before .before .before .before .before .build .kept .1 .1 .1 .1 .1 .1 .0
 
 same-length-5 : tie.Need-same-length-5
-same-length-5 c = search needs
+same-length-5 c = c .before .before .before .before .before .before .before .before .before .before .before .before .before .before .distances .kept .1 .1 .1 .1 .1 .1 .1 .1 .0
 
 same-length-6 : tie.Need-same-length-6
-same-length-6 c = search needs
+same-length-6 c = c .before .before .before .before .before .before .before .before .before .before .before .before .before .before .distances .kept .1 .1 .1 .1 .1 .1 .1 .1 .1 .0
 
 same-length-7 : tie.Need-same-length-7
-same-length-7 c = search needs
+same-length-7 c = c .before .before .before .before .before .before .before .before .before .before .before .before .before .before .distances .kept .1 .1 .1 .1 .1 .1 .1 .1 .1 .1 .0
 
 same-length-8 : tie.Need-same-length-8
-same-length-8 c = search needs
+same-length-8 c = c .before .before .before .before .before .before .before .before .before .before .before .before .before .before .distances .kept .1 .1 .1 .1 .1 .1 .1 .1 .1 .1 .1 .0
 
 same-length-9 : tie.Need-same-length-9
-same-length-9 c = search needs
+same-length-9 c = c .before .before .before .before .before .before .before .before .before .before .before .before .before .before .distances .kept .1 .1 .1 .1 .1 .1 .1 .1 .1 .1 .1 .1 .0
 
 same-length-10 : tie.Need-same-length-10
-same-length-10 c = search needs
+same-length-10 c =
+    let d = c .before .before .before .before .before .before .before .before .before .before .before .before .before .before in
+    let b = build-of d in
+    let s = start-of b in
+    back-length (s .pre .0 .spells) (built b) (s .args .table .now) (s .pre .1 .1 .entries) (distances d) (d .distances .kept .1 .1 .1 .1 .1 .1 .1 .1 .1 .1 .1 .1 .1 .0)
 
 returns : tie.Need-returns
 returns c =

@@ -21,10 +21,6 @@ use Rattle.product.specs.Product.{stateEdges}
 use Rattle.product.specs.Base.{base, directed}
 use Rattle.routes.specs.Plan.{Prepared, Measured}
 
--- How many states a usual book has at most (01: 30 grades, 20 runs).
-abbrev pub usualStates : ℕ
-usualStates = 160
-
 -- Room for `most` states everywhere: in the automaton's tables, in those for the edges, and in the table of distances.
 pub record Work (most : ℕ) (steps blockeds latests tails heads costs first next seen table : List ℕ) : Type 0 where
   pub automaton : Room most steps blockeds latests tails
