@@ -17,7 +17,7 @@ use Rattle.book.specs.TableLaws.{book-weights}
 use Rattle.rules.specs.Binding.{known}
 use Rattle.rules.specs.BindingLaws.{known-few, known-short}
 use Rattle.text.specs.Text.{refusalText}
-use Rattle.text.specs.Writing.{Wrote, wrote-front, front-text, front-size, front-within}
+use Rattle.text.specs.Writing.{Wrote, wrote-front, front-size, front-within}
 use Rattle.ends.specs.Ends.{ends}
 use Rattle.ends.specs.EndsLaws.{best-numbers}
 use Rattle.board_text.specs.Board.{lines, boardAs, boardOf, boardBy, boardText, Printed}
@@ -66,11 +66,8 @@ board-text s b long read start =
 pub wrote-printed : (s : List ℕ) {old : List ℕ} {r : ℕ} {new : List ℕ} → Wrote (boardText s) 0 old r new → Printed s old r new
 wrote-printed s w = let front = wrote-front w in record { length-is = front .0; bytes-are = front .1 }
 
--- The first r bytes are the text.
+-- The text's bytes are within the buffer.
 module _ (s old : List ℕ) (r : ℕ) (new : List ℕ) (p : Printed s old r new) where
-  pub printed-front : take r new ≡ boardText s
-  printed-front = front-text (boardText s) old (p .length-is) (p .bytes-are)
-
   pub printed-size : r ≡ length (take r new)
   printed-size = front-size (boardText s) old (p .length-is) (p .bytes-are)
 

@@ -3,7 +3,6 @@ use Prim.Native.Nat.{ℕ, _+_, _≤_}
 use mathlib.Core.Path.{_≡_, refl, sym, ap, _∙_, subst}
 use mathlib.Core.List.{List, [], _∷_, _++_, map, Memᴰ·map, Memᴰ·of-map}
 use native.Mathlib.Omega.{arith}
-use lib.ListN.{length, length-append}
 use Rattle.distances.specs.Edge.{Edge, _∈_, Path, total, cost, Within}
 use Rattle.distances.specs.Table.{at, Least}
 
@@ -47,10 +46,6 @@ total-reversed f (e ∷ p) = omega (arith, total-append f (reversed p) (swap e �
 
 pub cost-reversed : (p : List Edge) → cost (reversed p) ≡ cost p
 cost-reversed p = total-reversed (λ e. e .cost) p
-
-pub length-reversed : (p : List Edge) → length (reversed p) ≡ length p
-length-reversed [] = refl
-length-reversed (e ∷ p) = omega (arith, length-append (reversed p) (swap e ∷ []), length-reversed p)
 
 -- d is the least, over all paths to q, of the base entry at its start and the path's cost
 pub record LeastFrom (es : List Edge) (base : List ℕ) (q d : ℕ) : Type 0 where
