@@ -114,9 +114,8 @@ fn fill_known(random: &mut Random, case: &mut Case, book: &Book) {
     let lineup = &case.lineup[..case.record.length as usize];
     let mut runs = known_runs(case, book);
     while runs.len() < MOST_KNOWN {
-        let mut run: Run = (0..book.grades() as u8).collect();
-        random.shuffle(&mut run);
-        run.truncate(random.between(3, 6));
+        let length = random.between(3, 6);
+        let run = generate::any_grades(random, book.grades(), length);
         if !runs.contains(&run) && !check::stands_in(&run, lineup) {
             runs.push(run);
         }

@@ -1,4 +1,5 @@
-//! The book and its reader: 01, "The book" and refusals 1 to 6.
+//! The book and its reader: 01, "The book" and refusals 1 to 6. A run may come
+//! back to a grade, and have neighbours equal: 02, order 2.
 
 use crate::changeovers::{Changeover, Changeovers};
 use crate::refusal::Refusal;
@@ -139,11 +140,7 @@ fn add_run(book: &mut Book, run: &[u8]) -> Result<(), u8> {
 }
 
 fn run_has_good_grades(run: &[u8], grades: usize) -> bool {
-    run.iter().all(|&grade| usize::from(grade) < grades) && !names_twice(run)
-}
-
-pub fn names_twice(run: &[u8]) -> bool {
-    (1..run.len()).any(|i| run[..i].contains(&run[i]))
+    run.iter().all(|&grade| usize::from(grade) < grades)
 }
 
 /// Whether the book's rules for runs would take this list of grades.

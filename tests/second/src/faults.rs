@@ -2,7 +2,7 @@
 //! 8, 9 and 11 to 13 on what a report takes, on both sides where it has two.
 
 use crate::binding::{self, ENTRY, MOST_KNOWN, RUNS_AREA};
-use crate::book::{self, Run};
+use crate::book::{self, Run, LONGEST_RUN};
 use crate::calls::{Call, Case};
 use crate::check;
 use crate::generate;
@@ -104,7 +104,8 @@ pub fn faults() -> Vec<Fault> {
         fault("a run of 255 grades", Part::Runs, Some(9), |random, case| {
             set_length(random, case, 255)
         }),
-        fault("a run longer than its bytes", Part::Runs, Some(9), |random, case| {
+        // The next byte is 0, which is a grade of any book; a run of eight becomes one of nine.
+        fault("a run longer by an unused byte", Part::Runs, None, |random, case| {
             let entry = any_entry(random, case);
             entry[0] = entry[0].wrapping_add(1);
         }),
@@ -112,9 +113,14 @@ pub fn faults() -> Vec<Fault> {
             let entry = any_entry(random, case);
             entry[0] = entry[0].wrapping_sub(1);
         }),
-        fault("a run that names a grade twice", Part::Runs, Some(9), |random, case| {
+        fault("a run with neighbours equal", Part::Runs, None, |random, case| {
             let entry = any_entry(random, case);
             entry[2] = entry[1];
+        }),
+        fault("a run that comes back to its first grade", Part::Runs, None, |random, case| {
+            let entry = any_entry(random, case);
+            let last = usize::from(entry[0]).clamp(1, ENTRY - 1);
+            entry[last] = entry[1];
         }),
         fault(
             "a run with a grade just not below the count",
@@ -182,6 +188,11 @@ pub fn faults() -> Vec<Fault> {
                 add_known(case, &entry_of(&run));
             }
         }),
+        fault("a known run that stands and comes back", Part::Runs, Some(9), |_, case| {
+            if let Some(run) = returning_part(standing(case)) {
+                add_known(case, &entry_of(&run));
+            }
+        }),
         fault("stage 1 without passed", Part::Record, Some(9), |_, case| {
             case.record.stage = PASSED
         }),
@@ -216,9 +227,11 @@ pub fn faults() -> Vec<Fault> {
         }),
         fault("known one too many", Part::Record, Some(9), |_, case| case.record.known += 1),
         fault("known at the start one too many", Part::Record, Some(9), |_, case| {
-            case.record.known_at_start += 1
+            case.record.known_at_start = case.record.known_at_start.wrapping_add(1)
         }),
-        fault("failed one too many", Part::Record, Some(9), |_, case| case.record.failed += 1),
+        fault("failed one too many", Part::Record, Some(9), |_, case| {
+            case.record.failed = case.record.failed.wrapping_add(1)
+        }),
         fault("known at the start one too few", Part::Record, Some(9), |_, case| {
             case.record.known_at_start = case.record.known_at_start.wrapping_sub(1)
         }),
@@ -244,12 +257,14 @@ pub fn faults() -> Vec<Fault> {
             case.record.known_at_start = 0;
             case.record.failed = case.record.known;
         }),
-        fault("a litre too many", Part::Record, Some(9), |_, case| case.record.litres += 1),
+        fault("a litre too many", Part::Record, Some(9), |_, case| {
+            case.record.litres = case.record.litres.wrapping_add(1)
+        }),
         fault("a litre too few", Part::Record, Some(9), |_, case| {
             case.record.litres = case.record.litres.wrapping_sub(1)
         }),
         fault("2 to the 32 litres too many", Part::Record, Some(9), |_, case| {
-            case.record.litres += 1 << 32
+            case.record.litres = case.record.litres.wrapping_add(1 << 32)
         }),
         fault("2 to the 63 litres too many", Part::Record, Some(9), |_, case| {
             case.record.litres ^= 1 << 63
@@ -262,7 +277,9 @@ pub fn faults() -> Vec<Fault> {
         fault("length one less", Part::Record, Some(9), |_, case| {
             case.record.length = case.record.length.wrapping_sub(1)
         }),
-        fault("length one more", Part::Record, Some(9), |_, case| case.record.length += 1),
+        fault("length one more", Part::Record, Some(9), |_, case| {
+            case.record.length = case.record.length.wrapping_add(1)
+        }),
         fault("length 1,601", Part::Record, Some(9), |_, case| {
             case.record.length = LINEUP_AREA as u64 + 1
         }),
@@ -270,7 +287,7 @@ pub fn faults() -> Vec<Fault> {
             case.record.length = case.lineup.len() as u64 + 1
         }),
         fault("length and 2 to the 32 more", Part::Record, Some(9), |_, case| {
-            case.record.length += 1 << 32
+            case.record.length = case.record.length.wrapping_add(1 << 32)
         }),
         fault("length 2 to the 64 less 1", Part::Record, Some(9), |_, case| {
             case.record.length = u64::MAX
@@ -311,8 +328,23 @@ pub fn faults() -> Vec<Fault> {
             case.list = (0..9).collect()
         }),
         fault("300 grades named", Part::Named, Some(12), |_, case| case.list = vec![0; 300]),
-        fault("a grade named twice", Part::Named, Some(12), |_, case| {
+        fault("equal neighbours named", Part::Named, Some(12), |_, case| {
             case.list = vec![case.lineup[0], case.lineup[0]]
+        }),
+        fault(
+            "equal neighbours named in a run that else stands",
+            Part::Named,
+            Some(12),
+            |_, case| {
+                if let Some(&grade) = case.list.get(1) {
+                    case.list.insert(1, grade);
+                }
+            },
+        ),
+        fault("a run named that comes back to a grade", Part::Named, None, |_, case| {
+            if let Some(run) = returning_part(standing(case)) {
+                case.list = run;
+            }
         }),
         fault("the line-up backwards", Part::Named, Some(12), |_, case| case.list.reverse()),
         fault(
@@ -321,8 +353,9 @@ pub fn faults() -> Vec<Fault> {
             Some(12),
             |random, case| {
                 let place = random.below(case.list.len().max(1));
+                let bad = random.pick(&[grades(case), 64, 255]);
                 if let Some(grade) = case.list.get_mut(place) {
-                    *grade = 64;
+                    *grade = bad;
                 }
             },
         ),
@@ -361,6 +394,14 @@ fn part_of_standing(random: &mut Random, case: &Case) -> Option<Run> {
     } else {
         None
     }
+}
+
+/// The first part of the line-up that comes back to its first grade, if it is no
+/// longer than a run may be.
+fn returning_part(lineup: &[u8]) -> Option<Run> {
+    let last = (1..lineup.len()).find(|&i| lineup[..i].contains(&lineup[i]))?;
+    let first = lineup[..last].iter().position(|&grade| grade == lineup[last])?;
+    Some(lineup[first..=last].to_vec()).filter(|run| run.len() <= LONGEST_RUN)
 }
 
 /// So many grades of a way there and back, if the book has one that is clear;

@@ -6,6 +6,7 @@ use crate::changeovers::{Changeover, Changeovers, MOST_LITRES};
 use crate::draft::Draft;
 use crate::plan;
 use crate::random::Random;
+use std::collections::BTreeSet;
 
 /// How many of each a random book has.
 #[derive(Clone, Copy, Debug)]
@@ -46,7 +47,7 @@ pub fn largest(random: &mut Random) -> Draft {
     let items = random_changeovers(random, 64, pairs(64), &litres);
     let mut runs: Vec<Run> = Vec::new();
     while runs.len() < 256 {
-        let run = random_grades(random, 64, LONGEST_RUN);
+        let run = any_grades(random, 64, LONGEST_RUN);
         if !runs.contains(&run) {
             runs.push(run);
         }
@@ -136,7 +137,7 @@ pub fn batch_marks(random: &mut Random) -> u16 {
 }
 
 /// Runs that overlap: ways along changeovers, any lists, and lists that begin,
-/// end or go on where an earlier one did.
+/// end, go on or repeat where an earlier one did.
 pub fn random_runs(
     random: &mut Random,
     grades: usize,
@@ -144,9 +145,6 @@ pub fn random_runs(
     count: usize,
 ) -> Vec<Run> {
     let mut runs: Vec<Run> = Vec::new();
-    if grades < SHORTEST_RUN {
-        return runs;
-    }
     while runs.len() < count {
         let run = match random.below(6) {
             0 => random_list(random, grades),
@@ -159,24 +157,30 @@ pub fn random_runs(
     runs
 }
 
+/// Half of the lists have different grades, if there are enough.
 fn random_list(random: &mut Random, grades: usize) -> Run {
-    let length = random.between(SHORTEST_RUN, LONGEST_RUN.min(grades));
-    random_grades(random, grades, length)
-}
-
-/// So many different grades.
-fn random_grades(random: &mut Random, grades: usize, length: usize) -> Run {
+    let length = random.between(SHORTEST_RUN, LONGEST_RUN.min(grades + 2));
+    if length > grades || random.chance(50) {
+        return any_grades(random, grades, length);
+    }
     let mut list: Run = (0..grades as u8).collect();
     random.shuffle(&mut list);
     list.truncate(length);
     list
 }
 
-/// A way along changeovers that names no grade twice; may be too short.
+/// So many grades, different or not.
+pub fn any_grades(random: &mut Random, grades: usize, length: usize) -> Run {
+    (0..length).map(|_| random.below(grades) as u8).collect()
+}
+
+/// A way along changeovers, half of the time one that comes back to no grade;
+/// may be too short.
 pub fn random_way(random: &mut Random, items: &[Changeover]) -> Run {
     if items.is_empty() {
         return Vec::new();
     }
+    let simple = random.chance(50);
     let length = random.between(SHORTEST_RUN, LONGEST_RUN);
     let first = random.pick(items);
     let mut way = vec![first.from, first.to];
@@ -184,7 +188,7 @@ pub fn random_way(random: &mut Random, items: &[Changeover]) -> Run {
         let last = way[way.len() - 1];
         let onward: Vec<u8> = items
             .iter()
-            .filter(|item| item.from == last && !way.contains(&item.to))
+            .filter(|item| item.from == last && !(simple && way.contains(&item.to)))
             .map(|item| item.to)
             .collect();
         if onward.is_empty() {
@@ -195,11 +199,11 @@ pub fn random_way(random: &mut Random, items: &[Changeover]) -> Run {
     way
 }
 
-/// An earlier run with its first or last grade gone, another grade after it,
-/// or just as it was.
+/// An earlier run with its first or last grade gone, another grade after it, a
+/// grade doubled, its first grades over and over, or just as it was.
 fn related_run(random: &mut Random, grades: usize, runs: &[Run]) -> Run {
     let mut run = random.pick(runs);
-    let change = random.below(5);
+    let change = random.below(8);
     if change == 1 || change == 2 {
         run.remove(0);
     }
@@ -209,7 +213,26 @@ fn related_run(random: &mut Random, grades: usize, runs: &[Run]) -> Run {
     if change == 4 {
         run.pop();
     }
+    match change {
+        5 => doubled(random, run),
+        6 | 7 => repeated(random, &run),
+        _ => run,
+    }
+}
+
+/// The run with neighbours equal, no longer than a run may be: it never occurs.
+pub fn doubled(random: &mut Random, mut run: Run) -> Run {
+    let place = random.below(run.len() - 1);
+    run.insert(place, run[place]);
+    run.truncate(LONGEST_RUN);
     run
+}
+
+/// The run's first two or three grades over and over, as 0 1 0 1 or 1 0 1 0 1.
+fn repeated(random: &mut Random, run: &[u8]) -> Run {
+    let period = random.between(2, 3).min(run.len());
+    let length = random.between(period + 1, LONGEST_RUN);
+    run[..period].iter().copied().cycle().take(length).collect()
 }
 
 /// A book whose runs were each taken from the plan under the runs before, so
@@ -217,46 +240,151 @@ fn related_run(random: &mut Random, grades: usize, runs: &[Run]) -> Run {
 /// nothing is left to plan.
 pub fn grown(random: &mut Random, size: Size, litres: &[u32], start: u8, end: u8) -> Draft {
     let items = random_changeovers(random, size.grades, size.changeovers, litres);
-    let runs = grown_runs(random, size.grades, &items, size.runs, start, end);
+    let runs = grown_runs(random, &table(size.grades, &items), Vec::new(), size.runs, start, end);
     sheets_of_16(Draft::new(size.grades as u8).changeovers(&items), &runs)
 }
 
+/// The runs, and up to `count` more.
 fn grown_runs(
     random: &mut Random,
-    grades: usize,
-    items: &[Changeover],
+    changeovers: &Changeovers,
+    mut runs: Vec<Run>,
     count: usize,
     start: u8,
     end: u8,
 ) -> Vec<Run> {
-    let changeovers = table(grades, items);
-    let mut runs: Vec<Run> = Vec::new();
+    let most = runs.len() + count;
     let mut tries = 0;
-    while runs.len() < count && tries < 3 * count {
+    while runs.len() < most && tries < 3 * count {
         tries += 1;
-        let best = plan::best(&changeovers, &runs, start, end);
+        let best = plan::best(changeovers, &runs, start, end);
         match best.and_then(|best| part_of(random, &best.lineup)) {
+            Some(run) if random.chance(5) => runs.push(doubled(random, run)),
             Some(run) => runs.push(run),
             None => break,
         }
-        if plan::best(&changeovers, &runs, start, end).is_none() && random.chance(95) {
+        if plan::best(changeovers, &runs, start, end).is_none() && random.chance(95) {
             runs.pop();
         }
     }
     runs
 }
 
-/// A random run that stands in a line-up, longer ones more often.
+/// A way from a start round a loop to an end.
+struct Turns {
+    start: u8,
+    around: Vec<u8>,
+    /// The place in the loop of the grade that the end follows.
+    leave: usize,
+    end: u8,
+}
+
+impl Turns {
+    fn random(random: &mut Random, grades: usize, period: usize) -> Turns {
+        let mut names: Vec<u8> = (0..grades as u8).collect();
+        random.shuffle(&mut names);
+        let around = names[2..2 + period].to_vec();
+        Turns { start: names[0], around, leave: random.below(period), end: names[1] }
+    }
+
+    fn lineup(&self, rounds: usize) -> Run {
+        let turns = self.around.len() * rounds + self.leave + 1;
+        let around = self.around.iter().copied().cycle().take(turns);
+        [self.start].into_iter().chain(around).chain([self.end]).collect()
+    }
+
+    fn pairs(&self) -> BTreeSet<(u8, u8)> {
+        self.lineup(1).windows(2).map(|pair| (pair[0], pair[1])).collect()
+    }
+
+    /// The line-ups that leave the loop after fewer rounds, as far as they are runs.
+    fn leaving(&self, rounds: usize) -> Vec<Run> {
+        let lineups = (0..rounds).map(|fewer| self.lineup(fewer));
+        lineups.filter(|run| run.len() <= LONGEST_RUN).collect()
+    }
+
+    /// A part of so many rounds that overlaps itself: two grades more than a round,
+    /// or longer, if the rounds have them. Half of the time the end may be its last;
+    /// then the grades before that overlap, and whoever begins the run anew after a
+    /// false start misses it.
+    fn overlapping(&self, random: &mut Random, rounds: usize) -> Option<Run> {
+        let lineup = self.lineup(rounds);
+        let inside = &lineup[1..lineup.len() - random.below(2)];
+        let (shortest, longest) = (self.around.len() + 2, inside.len().min(LONGEST_RUN));
+        if longest < shortest {
+            return None;
+        }
+        let length = random.between(shortest, longest);
+        let place = random.between(0, inside.len() - length);
+        Some(inside[place..place + length].to_vec())
+    }
+}
+
+/// A book whose plan goes round a loop of two or three grades, and the start and
+/// end of that plan: runs forbid to leave the loop sooner. In half of those whose rounds
+/// are long enough another run forbids them, or to leave then; more runs are taken
+/// from the plans.
+pub fn turning(random: &mut Random) -> (Draft, u8, u8) {
+    let period = random.between(2, 3);
+    let grades = random.between(period + 2, 8);
+    let turns = Turns::random(random, grades, period);
+    let items = turning_changeovers(random, grades, &turns);
+    let mut runs = turns.leaving(random.pick(&[1, 2, 2, 3, 3]));
+    let overlapping = turns.overlapping(random, runs.len());
+    runs.extend(overlapping.filter(|_| random.chance(50)));
+    let more = random.pick(&[0, 0, 0, 0, 1, 2, 6]);
+    let Turns { start, end, .. } = turns;
+    let mut runs = grown_runs(random, &table(grades, &items), runs, more, start, end);
+    random.shuffle(&mut runs);
+    (sheets_of_16(Draft::new(grades as u8).changeovers(&items), &runs), start, end)
+}
+
+/// Those of the turns are cheap, some others are dear, and one of these mostly leads
+/// from start to end.
+fn turning_changeovers(random: &mut Random, grades: usize, turns: &Turns) -> Vec<Changeover> {
+    let cheap = random.pick(&[vec![0], vec![0], vec![1], vec![0, 1]]);
+    let others = random.between(0, 2 * grades);
+    let mut items = random_changeovers(random, grades, others, &[3, 20, 20, 21, MOST_LITRES]);
+    let mut pairs = turns.pairs();
+    items.retain(|item| !pairs.contains(&(item.from, item.to)));
+    items.extend(pairs.iter().map(|&(from, to)| Changeover {
+        from,
+        to,
+        litres: random.pick(&cheap),
+    }));
+    pairs.extend(items.iter().map(|item| (item.from, item.to)));
+    if random.chance(75) && pairs.insert((turns.start, turns.end)) {
+        items.push(Changeover { from: turns.start, to: turns.end, litres: 50 });
+    }
+    random.shuffle(&mut items);
+    items
+}
+
+/// A random run that stands in a line-up, longer ones and ones that come back to
+/// a grade more often.
 pub fn part_of(random: &mut Random, lineup: &[u8]) -> Option<Run> {
     if lineup.len() < SHORTEST_RUN {
         return None;
     }
+    let mut part = any_part(random, lineup);
+    for _ in 0..random.below(4) {
+        if !comes_back(&part) {
+            part = any_part(random, lineup);
+        }
+    }
+    Some(part)
+}
+
+pub fn comes_back(run: &[u8]) -> bool {
+    (1..run.len()).any(|i| run[..i].contains(&run[i]))
+}
+
+fn any_part(random: &mut Random, lineup: &[u8]) -> Run {
     let place = random.below(lineup.len() - 1);
     let rest = &lineup[place..];
-    let simple = (1..rest.len()).find(|&i| rest[..i].contains(&rest[i])).unwrap_or(rest.len());
-    let longest = simple.min(LONGEST_RUN);
+    let longest = rest.len().min(LONGEST_RUN);
     let length = random.between(SHORTEST_RUN, longest).max(random.between(SHORTEST_RUN, longest));
-    Some(rest[..length].to_vec())
+    rest[..length].to_vec()
 }
 
 pub fn table(grades: usize, items: &[Changeover]) -> Changeovers {

@@ -48,7 +48,8 @@ pub fn any_scene(random: &mut Random) -> Scene {
         0 => generate::largest(random).into(),
         1..=20 => generate::typical(random).into(),
         21..=200 => generate::small(random).into(),
-        201..=580 => grown_scene(random),
+        201..=400 => grown_scene(random),
+        401..=580 => turning_scene(random),
         581..=590 => wheels_scene(random),
         591..=600 => line_scene(random),
         _ => generate::tiny(random).into(),
@@ -65,6 +66,11 @@ fn grown_scene(random: &mut Random) -> Scene {
     let (start, end) = (start as u8, end as u8);
     let size = Size { grades, changeovers, sheets: 0, runs };
     let draft = generate::grown(random, size, &litres, start, end);
+    Scene { draft, made_for: Some((start, end)) }
+}
+
+fn turning_scene(random: &mut Random) -> Scene {
+    let (draft, start, end) = generate::turning(random);
     Scene { draft, made_for: Some((start, end)) }
 }
 
@@ -386,7 +392,7 @@ fn false_report(random: &mut Random, lineup: &[u8]) -> LabReport {
 fn odd_run(random: &mut Random, trials: &Trials) -> Run {
     let lineup = trials.lineup();
     let known = trials.record.known as usize;
-    match random.below(8) {
+    match random.below(9) {
         0 => Vec::new(),
         1 => vec![trials.record.start],
         2 => lineup
@@ -399,7 +405,9 @@ fn odd_run(random: &mut Random, trials: &Trials) -> Run {
         4 => vec![trials.record.start, random.byte()],
         5 if known > 0 => known_run(trials, random.below(known)),
         6 => lineup.iter().take(8).rev().copied().collect(),
-        // As it stands in the line-up, a grade named twice or not.
+        7 => generate::part_of(random, lineup)
+            .map_or(Vec::new(), |run| generate::doubled(random, run)),
+        // As it stands in the line-up, of a run's length or not.
         _ => {
             let place = random.below(lineup.len() + 1);
             lineup[place..].iter().take(random.between(2, 10)).copied().collect()

@@ -1,4 +1,4 @@
-//! A second fuel-sequence planner, written from paper 01 and order 1 of paper 02
+//! A second fuel-sequence planner, written from paper 01 and orders 1 and 2 of paper 02
 //! alone, and the random books, vectors and comparisons that hold another planner against it.
 //!
 //! The planner: `book`, `changeovers`, `binding`, `check`, `plan`, `board`,

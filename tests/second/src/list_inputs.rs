@@ -109,7 +109,7 @@ fn resize_area(random: &mut Random, area: &mut Vec<u8>) {
     area.resize(length, random.byte());
 }
 
-/// An area that no binding leaves.
+/// An area that binding did not leave so.
 fn spoil_area(random: &mut Random, list: &mut List) {
     let used = usize::from(list.known).min(MOST_KNOWN);
     let area = &mut list.runs_area;
@@ -122,7 +122,7 @@ fn spoil_area(random: &mut Random, list: &mut List) {
         0 => area[entry] = random.below(10) as u8,
         1 => area[entry + random.between(1, ENTRY - 1)] = random.byte(),
         2 => area[random.below(RUNS_AREA)] = random.byte(),
-        // A grade twice.
+        // Neighbours equal, which a run may have.
         3 => area[entry + 2] = area[entry + 1],
         // An entry of another place.
         4 => {
@@ -212,7 +212,7 @@ fn items_a() -> Vec<Changeover> {
         .to_vec()
 }
 
-/// 01's sums, in two orders.
+/// 01's sums, in two orders, and those with runs that come back.
 fn book_a_lists() -> Vec<List> {
     let mut lists = Vec::new();
     for marks in 0..4 {
@@ -221,6 +221,9 @@ fn book_a_lists() -> Vec<List> {
             let items = list.items.iter().rev().copied().collect();
             lists.extend([list.clone(), List { items, ..list }]);
         }
+    }
+    for draft in samples::books_with_runs_that_come_back() {
+        lists.extend((0..4).map(|marks| list_of(&draft, marks, 0, 3)));
     }
     lists
 }

@@ -57,6 +57,35 @@ pub fn book_of_ties() -> Draft {
         .changeover(2, 3, 100)
 }
 
+/// Book A with a run more, in a sheet that binds every batch.
+fn book_a_with(run: &[u8]) -> Draft {
+    book_a().sheet(0).run(run)
+}
+
+/// The cheap way from 0 to 3 has to go round 1 2 twice, and 1 2 1 2 forbids that. The
+/// sheet that needs 2 forbids nothing.
+pub fn book_of_turns() -> Draft {
+    Draft::new(4)
+        .changeover(0, 1, 0)
+        .changeover(1, 2, 0)
+        .changeover(2, 1, 0)
+        .changeover(1, 3, 0)
+        .changeover(0, 3, 9)
+        .sheet(0)
+        .run(&[0, 1, 3])
+        .run(&[0, 1, 2, 1, 3])
+        .sheet(0x0001)
+        .run(&[1, 2, 1, 2])
+        .sheet(0x0002)
+        .run(&[1, 1])
+        .run(&[0, 1, 1, 2])
+}
+
+/// Books of 4 grades from 0 to 3.
+pub fn books_with_runs_that_come_back() -> [Draft; 3] {
+    [book_a_with(&[1, 2, 1]), book_a_with(&[1, 1]), book_of_turns()]
+}
+
 /// As many sheets as a book may have.
 pub fn full_sheets() -> Draft {
     (0..16).fold(Draft::new(2), |draft, marks| draft.sheet(marks))
@@ -85,6 +114,7 @@ fn cuts(bytes: &[u8]) -> Vec<Vec<u8>> {
 
 fn drafts_at_boundaries() -> Vec<Draft> {
     let mut drafts: Vec<Draft> = vec![book_a(), book_a_other_order(), book_of_ties()];
+    drafts.extend(books_with_runs_that_come_back());
     drafts.extend([0, 1, 2, 63, 64, 65, 128, 255].map(Draft::new));
     drafts.extend(changeover_boundaries());
     drafts.extend(run_boundaries());
@@ -132,6 +162,7 @@ fn run_boundaries() -> Vec<Draft> {
     drafts.push(Draft::new(64).sheet(0xffff).run(&[63, 62]));
     drafts.push(Draft::new(64).sheet(0xffff).run(&[63, 64]));
     drafts.push(Draft::new(1).sheet(0).run(&[0, 1]));
+    drafts.push(Draft::new(1).sheet(0).run(&[0, 0]).run(&[0; 8]));
     // A run may be repeated, in its sheet and in another.
     drafts.push(run(&[1, 2]).run(&[1, 2]).sheet(0x8000).run(&[1, 2]).run(&[2, 1]));
     drafts
@@ -259,11 +290,18 @@ fn plan_cases(random: &mut Random) -> Vec<Vec<u8>> {
     cases
 }
 
-/// 01's settled sums on plans, for all starts and ends.
+/// The books of 01's settled sums on plans, and books with runs that come back.
+fn books_of_sums() -> Vec<Draft> {
+    let with_short_way = book_of_ties().changeover(0, 3, 200);
+    let mut books = vec![book_a(), book_a_other_order(), book_of_ties(), with_short_way];
+    books.extend(books_with_runs_that_come_back());
+    books
+}
+
+/// There, back, and from the end to itself.
 fn plan_sums() -> Vec<Vec<u8>> {
     let mut cases = Vec::new();
-    let with_short_way = book_of_ties().changeover(0, 3, 200);
-    for book in [book_a(), book_a_other_order(), book_of_ties(), with_short_way] {
+    for book in books_of_sums() {
         for marks in 0..4 {
             cases.push(plan_input(marks, 0, 3, &book.bytes()));
             cases.push(plan_input(marks, 3, 0, &book.bytes()));
@@ -278,7 +316,7 @@ fn plan_refusals() -> Vec<Vec<u8>> {
     let mut cases = Vec::new();
     for (start, end) in [(3, 3), (4, 0), (0, 4), (255, 0), (0, 255), (4, 4), (255, 255)] {
         cases.push(plan_input(3, start, end, &book_a().bytes()));
-        cases.push(plan_input(3, start, end, &book_a().run(&[0, 0]).bytes()));
+        cases.push(plan_input(3, start, end, &book_a().run(&[0, 4]).bytes()));
     }
     for draft in drafts_at_boundaries() {
         cases.push(plan_input(0xffff, 0, 1, &draft.bytes()));
@@ -326,17 +364,16 @@ fn board_cases(random: &mut Random) -> Vec<Vec<u8>> {
     cases
 }
 
-/// The books of 01's settled sums from every start, and from some that are not
-/// below the count, which is after the book's own refusals.
+/// The books of the sums from every start, and from some that are not below the
+/// count, which is after the book's own refusals.
 fn board_sums() -> Vec<Vec<u8>> {
     let mut cases = Vec::new();
-    let with_short_way = book_of_ties().changeover(0, 3, 200);
-    for book in [book_a(), book_a_other_order(), book_of_ties(), with_short_way] {
+    for book in books_of_sums() {
         for start in [0, 1, 2, 3, 4, 5, 64, 255] {
             for marks in 0..4 {
                 cases.push(board_input(marks, start, &book.bytes()));
             }
-            cases.push(board_input(3, start, &book.clone().sheet(0).run(&[0, 0]).bytes()));
+            cases.push(board_input(3, start, &book.clone().sheet(0).run(&[0, 4]).bytes()));
         }
     }
     cases
@@ -365,6 +402,11 @@ fn check_lineup_cases(random: &mut Random) -> Vec<Vec<u8>> {
     for lineup in lineups_to_check() {
         for marks in [0, 1, 2, 3, 0xffff] {
             cases.push(check_lineup_input(marks, &lineup, &book));
+        }
+    }
+    for lineup in returning_lineups() {
+        for marks in 0..4 {
+            cases.push(check_lineup_input(marks, &lineup, &returning_runs().bytes()));
         }
     }
     let lineup: &[u8] = &[0, 1, 2, 1, 2, 3];
@@ -408,6 +450,39 @@ fn overlapping_runs() -> Draft {
         .run(&[4, 3])
 }
 
+/// Runs that overlap themselves, so that one begins inside its own false start,
+/// and runs that never occur.
+fn returning_runs() -> Draft {
+    let mut draft = Draft::new(3);
+    for (from, to) in [(0, 1), (1, 0), (1, 2), (2, 1), (2, 0), (0, 2)] {
+        draft = draft.changeover(from, to, 1);
+    }
+    draft
+        .sheet(1)
+        .run(&[0, 1, 0, 2])
+        .run(&[1, 2, 1, 2, 0])
+        .sheet(2)
+        .run(&[1, 0, 1, 0, 1])
+        .run(&[1, 1])
+        .run(&[0, 1, 1, 2])
+        .run(&[2, 1, 2])
+}
+
+fn returning_lineups() -> Vec<Vec<u8>> {
+    let lists: [&[u8]; 9] = [
+        &[0, 1, 0, 2],
+        &[0, 1, 0, 1, 0, 2],
+        &[1, 0, 1, 0, 1],
+        &[0, 1, 0, 1, 0, 1, 0, 2],
+        &[1, 2, 1, 2, 1, 2, 0],
+        &[2, 1, 2, 0],
+        &[0, 1, 2, 0, 1, 2],
+        &[1, 0, 1, 0, 2, 0, 1],
+        &[0, 1, 1, 2],
+    ];
+    lists.iter().map(|list| list.to_vec()).collect()
+}
+
 fn lineups_to_check() -> Vec<Vec<u8>> {
     let lists: [&[u8]; 20] = [
         &[],
@@ -436,6 +511,7 @@ fn lineups_to_check() -> Vec<Vec<u8>> {
 
 fn replay_cases(random: &mut Random) -> Vec<Vec<u8>> {
     let mut cases = replay_sums();
+    cases.extend(replay_runs_that_come_back());
     cases.extend(replay_refused_begins());
     cases.extend(replay_refused_reports());
     cases.extend(replay_ends_of_lists());
@@ -466,6 +542,27 @@ fn replay_sums() -> Vec<Vec<u8>> {
     ]
 }
 
+/// Named runs that come back: on book A 1 2 1, then 1 3, then 2 1 2, which leaves
+/// none; all of its line-up; and on the book of turns runs that overlap themselves.
+fn replay_runs_that_come_back() -> Vec<Vec<u8>> {
+    let passed = vec![0];
+    let named = [&[1, 2, 1][..], &[1, 3], &[2, 1, 2]].map(failed_bytes);
+    let mut cases: Vec<Vec<u8>> = (1..=named.len())
+        .map(|count| {
+            after_begin(3, 0, 3, &[&named[..count], std::slice::from_ref(&passed)].concat())
+        })
+        .collect();
+    cases.push(after_begin(3, 0, 3, &[failed_bytes(&[0, 1, 2, 1, 2, 3]), passed.clone()]));
+    for named in [&[1, 2, 1, 2][..], &[1, 2, 1, 2, 1], &[0, 1, 2, 1], &[0, 1, 2, 1, 2, 1, 3]] {
+        let input = replay_input(0, 0, 3, &book_of_turns().bytes());
+        cases.push([input, failed_bytes(named), passed.clone()].concat());
+    }
+    for draft in books_with_runs_that_come_back() {
+        cases.push([replay_input(3, 0, 3, &draft.bytes()), passed.clone()].concat());
+    }
+    cases
+}
+
 fn replay_refused_begins() -> Vec<Vec<u8>> {
     let whole = after_begin(3, 0, 3, &[vec![0]]);
     let mut cases: Vec<Vec<u8>> = (0..12).map(|length| whole[..length].to_vec()).collect();
@@ -488,9 +585,9 @@ fn replay_refused_reports() -> Vec<Vec<u8>> {
     let named: [&[u8]; 13] = [
         &[],
         &[0],
-        &[1, 2, 1],
+        &[2, 1, 2, 1],
         &[2, 2],
-        &[0, 1, 2, 1, 2, 3],
+        &[0, 1, 1, 2],
         &[0, 1, 2, 1, 2, 3, 0, 1, 2],
         &[0, 1, 2, 3],
         &[0, 2, 3],

@@ -120,7 +120,25 @@ fn grown_books() {
     assert!(tally.comes_back > 250 && tally.long > 800, "{} and {}", tally.comes_back, tally.long);
 }
 
-/// The planner relies on no run being simple.
+/// Loops that the runs force the plan to go round, and runs that forbid it.
+#[test]
+fn turning_books() {
+    let mut tally = Tally::default();
+    for seed in 0..1_200 {
+        let random = &mut Random::new(&[8, seed]);
+        let book = generate::read(&generate::turning(random).0);
+        compare(&book.changeovers, &binding::known_runs(&book, 0), &mut tally);
+    }
+    assert!(tally.plans > 25_000 && tally.none > 10_000, "{} and {}", tally.plans, tally.none);
+    assert!(
+        tally.comes_back > 450 && tally.long > 1_800,
+        "{} and {}",
+        tally.comes_back,
+        tally.long
+    );
+}
+
+/// The planner does not rely on runs being simple.
 #[test]
 fn runs_that_name_a_grade_twice() {
     let mut tally = Tally::default();
@@ -164,7 +182,8 @@ fn lists_in_the_way(random: &mut Random, changeovers: &Changeovers) -> Vec<Run> 
 }
 
 fn any_list(random: &mut Random, grades: usize) -> Run {
-    (0..random.between(2, 8)).map(|_| random.below(grades) as u8).collect()
+    let length = random.between(2, 8);
+    generate::any_grades(random, grades, length)
 }
 
 #[test]

@@ -78,7 +78,7 @@ fn the_board_refuses() {
     assert_eq!(programs::board(&input[..7]).lines().count(), 4);
     for start in [4, 5, 64, 255] {
         assert_eq!(board(3, start, &samples::book_a()), "REFUSED 7\n");
-        assert_eq!(board(3, start, &samples::book_a().run(&[0, 0])), "REFUSED 4 AT 81\n");
+        assert_eq!(board(3, start, &samples::book_a().run(&[0, 4])), "REFUSED 4 AT 81\n");
     }
     assert_eq!(board(0, 0, &Draft::new(65)), "REFUSED 4 AT 0\n");
     assert_eq!(board(0, 0, &Draft::new(1)), "0 LITRES 0 CHANGES 0\n");
@@ -177,6 +177,18 @@ fn boards_of_grown_books() {
         tally = (tally.0 + none, tally.1 + comes_back);
     }
     assert!(tally.0 > 3_000 && tally.1 > 250, "{tally:?}");
+}
+
+/// Loops that the runs force a plan to go round, and runs that forbid it.
+#[test]
+fn boards_of_turning_books() {
+    let mut tally = (0, 0);
+    for seed in 0..1_000 {
+        let draft = generate::turning(&mut Random::new(&[24, seed])).0;
+        let (none, comes_back) = compare_with_exhaustive(&draft, 0);
+        tally = (tally.0 + none, tally.1 + comes_back);
+    }
+    assert!(tally.0 > 5_000 && tally.1 > 300, "{tally:?}");
 }
 
 /// All litres 1,000,000 and the way through all grades: far below 2 to the 32.

@@ -57,6 +57,25 @@ fn binding_takes_all_binding_sheets_together() {
     }
 }
 
+/// A run that comes back is bound, once, and found by the check.
+#[test]
+fn runs_that_come_back_are_bound_and_found() {
+    let book = samples::book_a()
+        .sheet(0)
+        .run(&[1, 2, 1])
+        .run(&[1, 1])
+        .run(&[1, 2, 1])
+        .run(&[1, 2, 1, 2, 3])
+        .bytes();
+    let mut area = vec![0x55; RUNS_AREA];
+    assert_eq!(binding::bind(&book, 0, &mut area), Ok(3));
+    assert_eq!(area, area_of(&[&[1, 2, 1], &[1, 1], &[1, 2, 1, 2, 3]]));
+    let found = |lineup: &[u8]| check::check(&book, &area, 3, lineup);
+    assert_eq!(found(&[0, 1, 2, 1, 2, 3]), Ok(Some(Found { place: 1, length: 3 })));
+    assert_eq!(found(&[0, 2, 1, 2, 3]), Ok(None));
+    assert_eq!(found(&[0, 1, 1, 2]), plain(10));
+}
+
 #[test]
 fn binding_refuses_and_writes_nothing() {
     let book = samples::book_a().bytes();
@@ -87,6 +106,9 @@ fn the_check_names_the_earliest_end_then_the_shortest() {
     );
     // It begins inside another's false start.
     assert_eq!(check::first_run(&[0, 1, 0, 1, 2], &known(&[&[0, 1, 2]])), found(2, 3));
+    // It begins inside its own false start.
+    assert_eq!(check::first_run(&[0, 1, 0, 1, 0, 2], &known(&[&[0, 1, 0, 2]])), found(2, 4));
+    assert_eq!(check::first_run(&[0, 1, 0, 1, 0], &known(&[&[1, 0, 1, 0], &[1, 1]])), found(1, 4));
 }
 
 /// Random line-ups, against a look at every end and every length in turn.
@@ -148,10 +170,8 @@ fn an_area_of_known_runs_is_judged_whole() {
     for (place, byte) in [
         (0, 0), // too short
         (0, 1), // too short
-        (0, 3), // a grade twice
         (0, 9), // too long
         (0, 255),
-        (1, 1),  // a grade twice
         (1, 4),  // not below the count
         (3, 1),  // unused, inside a used entry
         (8, 1),  // unused, inside a used entry
@@ -162,7 +182,15 @@ fn an_area_of_known_runs_is_judged_whole() {
         area[place] = byte;
         assert!(!judged(&area, 2), "byte {place} as {byte}");
     }
+    // The same entry as 0 1 0, and as 1 1.
+    for (place, byte) in [(0, 3), (1, 1)] {
+        let mut area = good.clone();
+        area[place] = byte;
+        assert!(judged(&area, 2), "byte {place} as {byte}");
+    }
+    assert!(judged(&area_of(&[&[3; 8], &[0, 1, 0, 1], &[0, 0], &[0, 0, 0]]), 4));
     assert!(!judged(&area_of(&[&[0, 1], &[0, 1]]), 2), "a repeated one");
+    assert!(!judged(&area_of(&[&[1, 0, 1], &[2, 2], &[1, 0, 1]]), 3), "a repeated one");
     assert!(judged(&area_of(&[&[0, 1], &[1, 0], &[0, 1, 2]]), 3));
     // Bytes after the entries are not judged.
     assert!(judged(&[good, vec![7; 5]].concat(), 2));

@@ -114,9 +114,23 @@ fn values_of_runs() {
     assert_eq!(counts(&run(&[8, 0])), (9, 0, 1, 1));
     assert_eq!(refused(&run(&[9, 0]).bytes()), (4, 9));
     assert_eq!(refused(&run(&[0, 9]).bytes()), (4, 9));
-    assert_eq!(refused(&run(&[0, 0]).bytes()), (4, 9));
-    assert_eq!(refused(&run(&[0, 1, 2, 3, 4, 5, 6, 0]).bytes()), (4, 9));
+    assert_eq!(refused(&run(&[0, 1, 0, 9]).bytes()), (4, 9));
     assert_eq!(counts(&run(&[0, 1]).run(&[0, 1]).sheet(5).run(&[0, 1])), (9, 0, 2, 3));
+}
+
+/// A run may come back to a grade and have neighbours equal; it is counted.
+#[test]
+fn runs_that_come_back() {
+    let runs: [&[u8]; 6] =
+        [&[0, 0], &[0, 1, 0], &[0, 1, 1, 2], &[1, 0, 1, 0, 1], &[8; 8], &[0, 1, 2, 3, 4, 5, 6, 0]];
+    let all = runs.iter().fold(Draft::new(9).sheet(0), |draft, run| draft.run(run));
+    assert_eq!(counts(&all), (9, 0, 1, 6));
+    assert_eq!(
+        programs::read_book(&all.bytes()),
+        "GRADES 9 CHANGEOVERS 0 SHEETS 1 RUNS 6\nSHEET 0\nRUN 0 0\nRUN 0 1 0\nRUN 0 1 1 2\n\
+         RUN 1 0 1 0 1\nRUN 8 8 8 8 8 8 8 8\nRUN 0 1 2 3 4 5 6 0\n"
+    );
+    assert_eq!(counts(&Draft::new(1).sheet(0).run(&[0, 0])), (1, 0, 1, 1));
 }
 
 #[test]
@@ -132,7 +146,7 @@ fn sheets_and_runs_at_their_limits() {
     assert_eq!(refused(&runs.clone().run(&[0, 1]).bytes()), (6, 1289));
     assert_eq!(refused(&runs.clone().sheet(0).run(&[0, 1]).bytes()), (6, 1294));
     assert_eq!(refused(&runs.clone().run(&[0, 3]).bytes()), (4, 1289));
-    assert_eq!(refused(&runs.clone().run(&[0, 0]).bytes()), (4, 1289));
+    assert_eq!(refused(&runs.clone().run(&[0, 0]).bytes()), (6, 1289));
     assert_eq!(refused(&runs.run(&[0]).bytes()), (3, 1289));
 }
 

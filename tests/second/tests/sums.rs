@@ -1,4 +1,5 @@
-//! 01's settled sums, their values typed from the paper.
+//! 01's settled sums, their values typed from the paper, and sums with runs that
+//! come back (order 2 of 02).
 
 use second::binding::{self, RUNS_AREA};
 use second::book;
@@ -95,6 +96,29 @@ fn trials_from_marks_3() {
         "STAGE 2 START 0 END 3 KNOWN 4 AT-START 2 FAILED 2 PASSED 0 LITRES 0 LENGTH 0\n"
     );
     assert_eq!((trials.record.failed, trials.record.trials()), (2, 2));
+}
+
+/// Of the two line-ups at 500 litres, 0 1 3 has the fewer changeovers.
+#[test]
+fn a_named_run_that_comes_back() {
+    let mut trials = Trials::begin(BOOK_A, 3, 0, 3).unwrap();
+    assert_eq!(
+        trials.report(Report::Failed(&[1, 2, 1])),
+        "STAGE 0 START 0 END 3 KNOWN 3 AT-START 2 FAILED 1 PASSED 0 LITRES 500 LENGTH 3\n0 1 3\n"
+    );
+    let changeovers = book::read(BOOK_A).unwrap().changeovers;
+    assert_eq!(changeovers.lineup_litres(&[0, 2, 1, 2, 3]), Some(500));
+}
+
+#[test]
+fn sheets_with_runs_that_come_back() {
+    let with = |run: &[u8]| {
+        let fields = [&[0x03, 0x00, 0x02, 0x00, 0x00, 0x04, 0x00, run.len() as u8][..], run];
+        planned(3, 0, 3, &[BOOK_A, &fields.concat()].concat())
+    };
+    assert_eq!(with(&[1, 2, 1]), "LITRES 500 CHANGES 2\n0 1 3\n");
+    assert_eq!(with(&[1, 1]), "LITRES 450 CHANGES 5\n0 1 2 1 2 3\n");
+    assert_eq!(with(&[1, 2, 2, 3]), "LITRES 450 CHANGES 5\n0 1 2 1 2 3\n");
 }
 
 #[test]

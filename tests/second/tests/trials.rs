@@ -266,8 +266,8 @@ fn named_runs_that_12_is_for() {
         &[][..],
         &[0],
         &[1, 1],
-        &[1, 2, 1],
-        &[0, 1, 2, 1, 2, 3],
+        &[0, 1, 1, 2],
+        &[2, 1, 2, 1],
         &[0, 2],
         &[3, 2],
         &[2, 4],
@@ -283,6 +283,25 @@ fn named_runs_that_12_is_for() {
     for named in [&[0, 1][..], &[2, 3], &[1, 2, 3], &[2, 1], &[0, 1, 2]] {
         assert!(state.clone().failed(&book, named).is_ok(), "{named:?}");
     }
+    for named in [&[1, 2, 1][..], &[2, 1, 2], &[1, 2, 1, 2], &[0, 1, 2, 1, 2, 3]] {
+        assert!(state.clone().failed(&book, named).is_ok(), "{named:?}");
+    }
+}
+
+/// From marks 3, named 1 2 1, then 1 3, then 2 1 2.
+#[test]
+fn named_runs_that_come_back() {
+    let book = samples::book_a().bytes();
+    let mut state = begun(&book, 3, 0, 3);
+    state.record = state.failed(&book, &[1, 2, 1]).unwrap();
+    assert_eq!((state.record.litres, &state.lineup_area[..3]), (500, &[0, 1, 3][..]));
+    assert_eq!(state.entry(2), [3, 1, 2, 1, 0, 0, 0, 0, 0]);
+    state.record = state.failed(&book, &[1, 3]).unwrap();
+    assert_eq!((state.record.litres, &state.lineup_area[..5]), (500, &[0, 2, 1, 2, 3][..]));
+    assert_eq!(state.clone().failed(&book, &[1, 2, 1]), plain(12));
+    state.record = state.failed(&book, &[2, 1, 2]).unwrap();
+    assert_eq!((state.record.stage, state.record.failed, state.record.known), (NONE, 3, 5));
+    assert_eq!(state.entry(4), [3, 2, 1, 2, 0, 0, 0, 0, 0]);
 }
 
 #[test]
@@ -401,16 +420,16 @@ fn replay_meets_13_and_passes() {
 #[test]
 fn true_labs_end_in_the_best_line_up_or_none() {
     let mut endings = [0; 3];
-    for seed in 0..1_500 {
+    let mut comes_back = 0;
+    for seed in 0..2_000 {
         let random = &mut Random::new(&[3, seed]);
-        let draft =
-            if random.chance(50) { generate::tiny(random) } else { generate::small(random) };
+        let (draft, start, end) = book_for_trials(random);
         let book = generate::read(&draft);
         let bytes = draft.bytes();
-        let (start, end) = (random.below(book.grades()) as u8, random.below(book.grades()) as u8);
         let mut trials = Trials::begin(&bytes, 3, start, end).unwrap();
         let count = random.below(20);
-        let set = generate::random_runs(random, book.grades(), &book.changeovers.list(), count);
+        let mut set = generate::random_runs(random, book.grades(), &book.changeovers.list(), count);
+        set.extend(generate::part_of(random, trials.lineup()).filter(|_| random.chance(30)));
         let reports = run_true_lab(random, &mut trials, &set);
         let record = trials.record;
         assert_eq!(record.trials(), reports);
@@ -421,6 +440,7 @@ fn true_labs_end_in_the_best_line_up_or_none() {
         all.extend(set.clone());
         let best = exhaustive::best_first(&book.changeovers, &all, start, end);
         endings[record.stage as usize] += 1;
+        comes_back += usize::from(named(&trials).iter().any(|run| generate::comes_back(run)));
         match best {
             None => assert_eq!(record.stage, NONE),
             Some(plan) => {
@@ -430,6 +450,25 @@ fn true_labs_end_in_the_best_line_up_or_none() {
         }
     }
     assert!(endings[0] == 0 && endings[1] > 200 && endings[2] > 200, "{endings:?}");
+    assert!(comes_back > 40, "{comes_back}");
+}
+
+fn book_for_trials(random: &mut Random) -> (Draft, u8, u8) {
+    let draft = match random.below(3) {
+        0 => return generate::turning(random),
+        1 => generate::tiny(random),
+        _ => generate::small(random),
+    };
+    let grades = generate::read(&draft).grades();
+    (draft, random.below(grades) as u8, random.below(grades) as u8)
+}
+
+/// The runs that the lab named.
+fn named(trials: &Trials) -> Vec<Vec<u8>> {
+    let Record { known, known_at_start, .. } = trials.record;
+    let grades = second::book::read(trials.book).unwrap().grades();
+    let runs = second::binding::read_area(&trials.runs_area, known as usize, grades).unwrap();
+    runs[known_at_start as usize..].to_vec()
 }
 
 /// Reports until the trials are over, and gives the number of accepted ones.
