@@ -1,4 +1,4 @@
-pub mod Paths
+pub mod Vertices
 pub mod Frame
 pub mod Padded
 pub mod Taken

@@ -14,7 +14,7 @@ use Rattle.book.specs.declared.Answer.the-variants.{Read, Refused}
 use Rattle.book.specs.declared.Counts.{Counts}
 use Rattle.book.specs.declared.Kind.the-variants.{Path}
 use Rattle.book.specs.declared.Refusal.the-variants.{Value, TooMany}
-use Rattle.book.specs.Book.{Book, RuleSet, All, WellFormed, allPaths, counts, simple}
+use Rattle.book.specs.Book.{Book, RuleSet, All, WellFormed, allPaths, counts, areVertices}
 use Rattle.book.specs.BookLaws.{all-map, paths-path}
 use Rattle.book.specs.Reading.{Reading, readAs, addPath, endAt, lengthAt, pathAt, taken, kept, proper}
 use Rattle.book.specs.Tables.{ownersFrom, entries, padded, ownerTable, pathTable}
@@ -46,8 +46,8 @@ entry-added e k n ss p some-set held count room short size small =
     ∙ ap (padded areaSize) (sym (entries-snoc (allPaths ss) p) ∙ ap entries (sym (paths-path p ss some-set)))
 
 module _ (c : Counts) (s : List ℕ) (b : Book) (at : ℕ) (so-far : c ≡ counts b) (w : WellFormed b) (o e : List ℕ) (owners-held : o ≡ ownerTable (b .sets)) (paths-held : e ≡ pathTable (b .sets)) where
-  value-is : (x : Bool) → simple (c .vertices) (pathAt s at) ≡ x → proper Path s b at ≡ x
-  value-is x q = ap (λ (d : Counts). simple (d .vertices) (pathAt s at)) (sym so-far) ∙ q
+  value-is : (x : Bool) → areVertices (c .vertices) (pathAt s at) ≡ x → proper Path s b at ≡ x
+  value-is x q = ap (λ (d : Counts). areVertices (d .vertices) (pathAt s at)) (sym so-far) ∙ q
 
   -- the bytes that were copied, in the definition's terms
   pub copied : (r : ℕ) → r ≡ endAt s at → endAt s at ≤ length s → (e′ : List ℕ)
@@ -75,14 +75,14 @@ module _ (c : Counts) (s : List ℕ) (b : Book) (at : ℕ) (so-far : c ≡ count
       let unmoved : b .sets ≡ kept b (taken Path s b at) .sets = ap (λ (d : Book). d .sets) (sym same) ∙ ap (λ q. kept b q .sets) (sym is) in
       (sym (ap readAs is), owners-held ∙ ap ownerTable unmoved, paths-held ∙ ap pathTable unmoved)
 
-  pub path-improper : simple (c .vertices) (pathAt s at) ≡ false → Answers (Refused (Value at)) o e
+  pub path-improper : areVertices (c .vertices) (pathAt s at) ≡ false → Answers (Refused (Value at)) o e
   path-improper q = stays _ (taken-value Path s b at (value-is false q)) refl
 
-  pub path-many : simple (c .vertices) (pathAt s at) ≡ true → 256 ≤ c .paths → Answers (Refused (TooMany at)) o e
+  pub path-many : areVertices (c .vertices) (pathAt s at) ≡ true → 256 ≤ c .paths → Answers (Refused (TooMany at)) o e
   path-many q many =
       stays _ (taken-many Path s b at (value-is true q) refl (le-ltb (length (allPaths (b .sets))) 256 (omega (arith, ap (λ (d : Counts). d .paths) so-far)))) refl
 
-  pub path-added : simple (c .vertices) (pathAt s at) ≡ true → c .paths < mostPaths → 1 ≤ c .sets → endAt s at ≤ length s → lengthAt s at ≤ longestPath
+  pub path-added : areVertices (c .vertices) (pathAt s at) ≡ true → c .paths < mostPaths → 1 ≤ c .sets → endAt s at ≤ length s → lengthAt s at ≤ longestPath
       → Answers (Read (record { vertices = c .vertices; arcs = c .arcs; sets = c .sets; paths = c .paths + 1 }))
       (set o (c .paths) ((c .sets - 1) % 256))
       (paste (set e (c .paths * entrySize) (lengthAt s at % 256)) (c .paths * entrySize + 1) (pathAt s at) (lengthAt s at))

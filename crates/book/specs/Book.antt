@@ -2,11 +2,12 @@
 use Prim.Native.Nat.{ℕ, _≤_, _<_}
 use mathlib.Core.Path.{_≡_}
 use mathlib.Core.Logic.{_≢_}
-use mathlib.Core.Bool.{Bool, true, false, not, _&&_, _||_}
+use mathlib.Core.Bool.{Bool, false, not, _&&_}
 use mathlib.Core.List.{List, [], _∷_, _++_}
 use lib.ListN.{length}
 use lib.Dec.{eqb, leb, ltb}
 use Rattle.limits.specs.Limits.{mostVertices, heaviest, mostSets, mostPaths, longestPath}
+use Rattle.lists.specs.Test.{all}
 use Rattle.walks.specs.Graph.{Graph, Arc, isSome, weightIn, fromArcs}
 use Rattle.book.specs.declared.Counts.{Counts}
 
@@ -43,22 +44,16 @@ counts b =
 abbrev pub given : List Arc → ℕ → ℕ → Bool
 given arcs tail head = isSome (weightIn arcs tail head)
 
--- whether v is among the vertices of a list
-unfoldable pub names : List ℕ → ℕ → Bool
-names [] v = false
-names (u ∷ us) v = eqb u v || names us v
+-- whether all are vertices of a book with `count` vertices
+unfoldable pub areVertices : ℕ → List ℕ → Bool
+areVertices count p = all (λ v. ltb v count) p
 
--- each vertex of a path is below the count and is not named again
-unfoldable pub simple : ℕ → List ℕ → Bool
-simple count [] = true
-simple count (v ∷ vs) = ltb v count && not (names vs v) && simple count vs
-
--- 01: a run that the book's rules take, in a book with `count` vertices: 2 to 8 vertices below the count, none named twice
+-- 01, 02 (2): a run that the book's rules take, in a book with `count` vertices: 2 to 8 vertices below the count, a vertex as often as one likes
 abbrev pub pathLength : ℕ → Bool
 pathLength n = leb 2 n && leb n longestPath
 
 unfoldable pub isPath : ℕ → List ℕ → Bool
-isPath count p = pathLength (length p) && simple count p
+isPath count p = pathLength (length p) && areVertices count p
 
 -- two different vertices below the count, and a weight of at most 1,000,000 (01: litres)
 abbrev pub properArc : ℕ → Arc → Bool
@@ -81,17 +76,11 @@ abbrev pub PairsOnce : List Arc → Type 0
 PairsOnce [] = Unit
 PairsOnce (a ∷ rest) = (given rest (a .tail) (a .head) ≡ false) × PairsOnce rest
 
--- no vertex twice
-abbrev pub VerticesOnce : List ℕ → Type 0
-VerticesOnce [] = Unit
-VerticesOnce (v ∷ vs) = (names vs v ≡ false) × VerticesOnce vs
-
 -- a forbidden path of a book with `count` vertices
 pub record IsPath (count : ℕ) (p : List ℕ) : Type 0 where
   pub two : 2 ≤ length p
   pub eight : length p ≤ longestPath
   pub below : All (λ v. v < count) p
-  pub once : VerticesOnce p
 
 -- what holds of every book that is read, and of what has been read of one
 pub record WellFormed (b : Book) : Type 0 where

@@ -21,7 +21,7 @@ use Rattle.book.specs.Refusal.{Test, firstFailure}
 use Rattle.book.specs.RefusalLaws.{none→hold}
 use Rattle.lists.specs.Test.{and-true, or-false, either}
 use Rattle.walks.specs.Graph.{Arc, isSome, weightIn}
-use Rattle.book.specs.Book.{RuleSet, Book, blank, allPaths, counts, given, properArc, names, simple, isPath, All, IsArc, IsPath, PairsOnce, VerticesOnce, WellFormed}
+use Rattle.book.specs.Book.{RuleSet, Book, blank, allPaths, counts, given, properArc, areVertices, isPath, All, IsArc, IsPath, PairsOnce, WellFormed}
 use Rattle.book.specs.Reading.{Reading, accepted, refused, readAs, kindAt, lengthAt, endAt, countAt, arcAt, flagsAt, pathAt, follows, fits, proper, fresh, room, framing, content, extended, addPath, outcome, field, fields, andThen, reading}
 
 -- ---- lists
@@ -67,35 +67,28 @@ pub arc-passes : (n : ℕ) (a : Arc) → IsArc n a → properArc n a ≡ true
 arc-passes n a is =
     ap₂ _&&_ (ap₂ _&&_ (ap₂ _&&_ (lt-ltb _ _ (is .tail-below)) (lt-ltb _ _ (is .head-below))) (ap not (ne-eqb _ _ (is .different)))) (le-leb _ _ (is .light))
 
-pub simple-below : (count : ℕ) (p : List ℕ) → simple count p ≡ true → All (λ v. v < count) p
-unfolding simple
-simple-below count [] e = tt
-simple-below count (v ∷ vs) e =
-    let both = and-true (ltb v count && not (names vs v)) (simple count vs) e in
-    (ltb-true _ _ (and-true (ltb v count) _ (both .0) .0), simple-below count vs (both .1))
+pub vertices-below : (count : ℕ) (p : List ℕ) → areVertices count p ≡ true → All (λ v. v < count) p
+unfolding areVertices
+vertices-below count [] e = tt
+vertices-below count (v ∷ vs) e =
+    let (here, later) = and-true (ltb v count) _ e in
+    (ltb-true _ _ here, vertices-below count vs later)
 
-pub simple-once : (count : ℕ) (p : List ℕ) → simple count p ≡ true → VerticesOnce p
-unfolding simple
-simple-once count [] e = tt
-simple-once count (v ∷ vs) e =
-    let both = and-true (ltb v count && not (names vs v)) (simple count vs) e in
-    (not-true _ (and-true (ltb v count) _ (both .0) .1), simple-once count vs (both .1))
-
-pub path-simple : (count : ℕ) (p : List ℕ) → All (λ v. v < count) p → VerticesOnce p → simple count p ≡ true
-unfolding simple
-path-simple count [] below once = refl
-path-simple count (v ∷ vs) below once = rw (lt-ltb v count (below .0), once .0, path-simple count vs (below .1) (once .1))
+pub below-vertices : (count : ℕ) (p : List ℕ) → All (λ v. v < count) p → areVertices count p ≡ true
+unfolding areVertices
+below-vertices count [] below = refl
+below-vertices count (v ∷ vs) below = rw (lt-ltb v count (below .0), below-vertices count vs (below .1))
 
 pub isPath→IsPath : (count : ℕ) (p : List ℕ) → isPath count p ≡ true → IsPath count p
 unfolding isPath
 isPath→IsPath count p e =
-    let (size, vertices) = and-true (leb 2 (length p) && leb (length p) longestPath) (simple count p) e in
+    let (size, vertices) = and-true (leb 2 (length p) && leb (length p) longestPath) (areVertices count p) e in
     let (low, high) = and-true (leb 2 (length p)) (leb (length p) longestPath) size in
-    record { two = leb-true _ _ low; eight = leb-true _ _ high; below = simple-below count p vertices; once = simple-once count p vertices }
+    record { two = leb-true _ _ low; eight = leb-true _ _ high; below = vertices-below count p vertices }
 
 pub IsPath→isPath : (count : ℕ) (p : List ℕ) → IsPath count p → isPath count p ≡ true
 unfolding isPath
-IsPath→isPath count p h = rw (le-leb _ _ (h .two), le-leb _ _ (h .eight), path-simple count p (h .below) (h .once))
+IsPath→isPath count p h = rw (le-leb _ _ (h .two), le-leb _ _ (h .eight), below-vertices count p (h .below))
 
 -- ---- one more arc
 pub given-cons : (a : Arc) (xs : List Arc) (t h : ℕ) → given (a ∷ xs) t h ≡ (eqb (a .tail) t && eqb (a .head) h || given xs t h)
@@ -209,7 +202,7 @@ count-well-formed n b w first low high =
       few-paths = w .few-paths;
       paths-proper =
           all-map
-          (λ p h. record { two = h .two; eight = h .eight; below = all-map (λ v l. absurd (omega (arith, l))) p (h .below); once = h .once })
+          (λ p h. record { two = h .two; eight = h .eight; below = all-map (λ v l. absurd (omega (arith, l))) p (h .below) })
           (allPaths (b .sets))
           (w .paths-proper);
     }
@@ -273,8 +266,7 @@ extended-well-formed Path s b at w order fit whole value once space =
     (record {
       two = rw size (leb-true _ _ (limits .0));
       eight = rw size (leb-true _ _ (limits .1));
-      below = simple-below (b .count) (pathAt s at) value;
-      once = simple-once (b .count) (pathAt s at) value;
+      below = vertices-below (b .count) (pathAt s at) value;
     })
     (ltb-true _ _ space)
 extended-well-formed Unknown s b at w order fit whole value once space = w

@@ -17,7 +17,7 @@ use Rattle.book.specs.declared.Kind.the-variants.{VertexCount, Path, Unk
 use Rattle.book.specs.Refusal.{Test, testAt, numbered, firstFailure, refusalBy}
 use Rattle.limits.specs.Limits.{mostVertices, mostSets, mostPaths}
 use Rattle.walks.specs.Graph.{Arc}
-use Rattle.book.specs.Book.{RuleSet, Book, blank, allPaths, counts, given, properArc, pathLength, simple}
+use Rattle.book.specs.Book.{RuleSet, Book, blank, allPaths, counts, given, properArc, pathLength, areVertices}
 
 -- A byte string is a book, or is refused.
 pub data Reading : Type 0 where
@@ -90,7 +90,7 @@ abbrev pub proper : Kind → List ℕ → Book → ℕ → Bool
 proper VertexCount s b at = leb 1 (countAt s at) && leb (countAt s at) mostVertices
 proper Kind.Arc s b at = properArc (b .count) (arcAt s at)
 proper Kind.RuleSet s b at = true
-proper Path s b at = simple (b .count) (pathAt s at)
+proper Path s b at = areVertices (b .count) (pathAt s at)
 proper Unknown s b at = true
 
 -- 5: an arc's pair has not been given

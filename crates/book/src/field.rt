@@ -4,8 +4,8 @@ ghost use Prim.Native.Nat.{_+_, _≤_, _<_};
 ghost use lib.ListN.{length};
 ghost use lib.Seq.{slice};
 ghost use Rattle.limits.specs.Limits.{mostVertices, areaSize, longestPath};
-ghost use Rattle.book.specs.Book.{Book, WellFormed, names, properArc, isPath};
-ghost use Rattle.book.specs.Book.{counts as Book·counts, simple as Book·simple};
+ghost use Rattle.book.specs.Book.{Book, WellFormed, areVertices, properArc, isPath};
+ghost use Rattle.book.specs.Book.{counts as Book·counts};
 ghost use Rattle.book.specs.Reading.{readAs, u16At, u32At, endAt, lengthAt, kindOf, framed, taken, kept};
 ghost use Rattle.book.specs.Reading.{field as Reading·field, fits as Reading·fits, follows as Reading·follows};
 ghost use Rattle.book.specs.Tables.{IsGraph, IsLoaded, Enters, weightTable, flagTable, ownerTable, pathTable};
@@ -203,36 +203,17 @@ fn rule_set(bytes: &[u8], at: usize, counts: Counts, flags: &mut [u16; MOST_SETS
     })
 }
 
-// Whether v is among the bytes from `from` up to `to`.
-fn named(bytes: &[u8], from: usize, to: usize, v: u8) -> bool
+// Whether the bytes from `from` up to `to` are vertices of a book with so many.
+fn are_vertices(bytes: &[u8], from: usize, to: usize, vertices: usize) -> bool
     requires { ⌜ to ≤ length (now bytes) ⌝ }
-    ensures { λ r. ⌜ r ≡ names (slice from to (now (bytes .entry))) v ⌝ }
+    ensures { λ r. ⌜ r ≡ areVertices vertices (slice from to (now (bytes .entry))) ⌝ }
 {
     let mut i = from;
     while i < to {
-        if bytes[i] == v {
-            return true;
-        }
-        i += 1;
-    }
-    false
-}
-
-// Whether the bytes from `from` up to `to` are a simple path of vertices below the count.
-pub fn simple(bytes: &[u8], from: usize, to: usize, vertices: usize) -> bool
-    requires { ⌜ to ≤ length (now bytes) ⌝ }
-    ensures { λ r. ⌜ r ≡ Book·simple vertices (slice from to (now (bytes .entry))) ⌝ }
-{
-    let mut i = from;
-    while i < to {
-        let v = bytes[i];
-        if vertices <= wide(v) {
+        if vertices <= wide(bytes[i]) {
             return false;
         }
         i += 1;
-        if named(bytes, i, to, v) {
-            return false;
-        }
     }
     true
 }
@@ -249,7 +230,7 @@ pub fn is_path(bytes: &[u8], from: usize, to: usize, vertices: usize) -> bool
     if LONGEST_PATH < n {
         return false;
     }
-    simple(bytes, from, to, vertices)
+    are_vertices(bytes, from, to, vertices)
 }
 
 fn path(
@@ -267,7 +248,7 @@ fn path(
 {
     let end = field_end(bytes, at);
     let from = at + 3;
-    if !simple(bytes, from, end, counts.vertices) {
+    if !are_vertices(bytes, from, end, counts.vertices) {
         return Answer::Refused(Refusal::Value(at));
     }
     let k = counts.paths;

@@ -12,7 +12,7 @@ use Rattle.walks.specs.Graph.{Arc}
 use Rattle.book.specs.declared.Kind.{Kind}
 use Rattle.book.specs.declared.Kind.the-variants.{VertexCount, Path, Unknown}
 use Rattle.book.specs.RefusalLaws.{hold→none}
-use Rattle.book.specs.Book.{RuleSet, Book, given, properArc, simple}
+use Rattle.book.specs.Book.{RuleSet, Book, given, properArc, areVertices}
 use Rattle.book.specs.BookLaws.{bare}
 use Rattle.book.specs.Reading.{accepted, kindAt, lengthAt, endAt, follows, fits, proper, fresh, room, framing, content, extended, addPath, addArc, outcome, field}
 use Rattle.book_bytes.specs.Field.{Value, valueAt, bodyOf, written, length-written, kind-moved, length-moved, value-moved, kind-first, length-first, value-first}
@@ -29,7 +29,7 @@ abbrev pub properValue : (k : Kind) → Book → Value k → Bool
 properValue VertexCount b n = leb 1 n && leb n mostVertices
 properValue Kind.Arc b a = properArc (b .count) a
 properValue Kind.RuleSet b f = true
-properValue Path b p = simple (b .count) p
+properValue Path b p = areVertices (b .count) p
 properValue Unknown b v = true
 
 abbrev pub freshValue : (k : Kind) → Book → Value k → Bool

@@ -48,7 +48,7 @@ bytesOf b = countField (b .count) ++ flatMap arcField (b .arcs) ++ flatMap setFi
 
 -- ---- the rules
 -- 01's section 'The book': a count of 1 to 64; arcs between two different vertices below the count, of weight at most 1,000,000, no pair twice;
--- at most 16 rule sets, with flags of 16 bits; at most 256 paths in all, each of 2 to 8 vertices below the count, none twice
+-- at most 16 rule sets, with flags of 16 bits; at most 256 paths in all, each of 2 to 8 vertices below the count
 pub record Keeps (b : Book) : Type 0 where
   pub some-vertex : 1 ≤ b .count
   pub few-vertices : b .count ≤ mostVertices

@@ -17,7 +17,7 @@ use Rattle.book.specs.declared.Kind.the-variants.{VertexCount, Path, Unknown}
 use Rattle.book.specs.declared.Refusal.{Refusal}
 use Rattle.book.specs.declared.Refusal.the-variants.{Truncated, Tag, Length, Value, Repeated, TooMany}
 use Rattle.book.specs.Refusal.{firstFailure}
-use Rattle.book.specs.Book.{Book, WellFormed, blank, given, properArc, simple, allPaths}
+use Rattle.book.specs.Book.{Book, WellFormed, blank, given, properArc, areVertices, allPaths}
 use Rattle.book.specs.BookLaws.{blank-well-formed, field-passed, field-extends, field-well-formed, and-then-accepted}
 use Rattle.book.specs.Reading.{Reading, accepted, refused, reading, fields, field, andThen, outcome, taken, content, extended, addPath, follows, fits, kindOf, kindAt, lengthAt, endAt, arcAt, flagsAt, pathAt}
 use Rattle.book_bytes.specs.Bytes.{longestBook}
@@ -96,7 +96,7 @@ module _ (s : List ℕ) (m : ℕ) (b : Book) (at : ℕ) (within : at + 11 ≤ m)
       flags-same
   taken-same Path h =
       ap
-      (λ p. takenIf (simple (b .count) p) true (ltb (length (allPaths (b .sets))) mostPaths)
+      (λ p. takenIf (areVertices (b .count) p) true (ltb (length (allPaths (b .sets))) mostPaths)
       (record { count = b .count; arcs = b .arcs; sets = addPath (b .sets) p }) at)
       (path-same h)
   taken-same Unknown h = refl

@@ -11,7 +11,7 @@ use lib.ListN.{length, replicate}
 use Rattle.limits.specs.Limits.{mostVertices, mostSets, longestPath}
 use Rattle.lists.specs.Test.{all, and-true, either}
 use Rattle.walks.specs.Graph.{Arc}
-use Rattle.book.specs.Book.{Book, All, PairsOnce, allPaths, given, properArc, names, simple, isPath}
+use Rattle.book.specs.Book.{Book, All, PairsOnce, allPaths, given, properArc, areVertices, isPath}
 use Rattle.book.specs.BookLaws.{is-arc, isPath→IsPath, given-cons}
 use Rattle.book.specs.Reading.{accepted, reading}
 use Rattle.book_bytes.specs.Bytes.{AreBytes, bytesOf, Keeps, longestBook}
@@ -83,7 +83,7 @@ unfolding fullBook flatMap
 arcs-all-proper = refl
 
 paths-all-proper : all (isPath mostVertices) (allPaths (fullBook .sets)) ≡ true
-unfolding fullBook allPaths isPath simple names
+unfolding fullBook allPaths isPath areVertices
 paths-all-proper = refl
 
 paths-few : leb (length (allPaths (fullBook .sets))) 256 ≡ true

@@ -12,7 +12,7 @@ use Rattle.lists.specs.Test.{and-true}
 use Rattle.walks.specs.Graph.{Arc}
 use Rattle.book.specs.declared.Kind.{Kind}
 use Rattle.book.specs.declared.Kind.the-variants.{VertexCount, Path}
-use Rattle.book.specs.Book.{RuleSet, Book, blank, All, IsArc, PairsOnce, IsPath, allPaths, pathLength, simple, isPath}
+use Rattle.book.specs.Book.{RuleSet, Book, blank, All, IsArc, PairsOnce, IsPath, allPaths, pathLength, areVertices, isPath}
 use Rattle.book.specs.BookLaws.{all-left, all-right, arc-passes, not-before, IsPath→isPath}
 use Rattle.book.specs.Reading.{Reading, accepted, endAt, addPath, andThen, field, fields}
 use Rattle.book_bytes.specs.Bytes.{countField, arcField, pathField, setFields, bytesOf, Keeps}
@@ -97,7 +97,7 @@ module _ (n : ℕ) (arcs : List Arc) (low : 1 ≤ n) where
       subst (λ l. Reads (book n arcs (done ++ withPaths f ps)) [] (book n arcs (done ++ withPaths f l))) (sym (append-nil ps)) stop
   paths-read f done ps (p ∷ todo) proper few =
       let sets : List RuleSet = done ++ withPaths f ps in
-      let (size, vertices) = and-true (pathLength (length p)) (simple n p) (unfold isPath in IsPath→isPath n p (proper .0)) in
+      let (size, vertices) = and-true (pathLength (length p)) (areVertices n p) (unfold isPath in IsPath→isPath n p (proper .0)) in
       let so-far : length (allPaths sets) ≡ length (allPaths done) + length ps =
       ap length (paths-append done (withPaths f ps)) ∙ length-append (allPaths done) (ps ++ []) ∙ ap (λ l. length (allPaths done) + length l) (append-nil ps) in
       next Path p

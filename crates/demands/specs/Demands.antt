@@ -1,5 +1,5 @@
 -- The three demands (docs/RULES.md), sentence by sentence: each is a record with a part for each sentence, over the definitions that the contracts of the
--- operations name; and beside the second demand what request 1 adds (02, order 1). A sentence that a comment has in quotation marks is the demand's, 02's in the part of that
+-- operations name; and after the second demand what requests 1 and 2 add (02). A sentence that a comment has in quotation marks is the demand's, 02's in the part of a
 -- request, or 01's where it says so. Theorems.antt proves them.
 use Prim.Native.Nat.{ℕ, suc, _≤_, _<_, _+_, _*_}
 use mathlib.Core.Path.{_≡_}
@@ -7,17 +7,19 @@ use mathlib.Core.List.{List, [], _∷_, _++_, List·Permᴰ, List·Memᴰ}
 use mathlib.Core.Logic.{_⊎_, _↔_, _≢_}
 use mathlib.Core.Option.{some}
 use lib.ListN.{length, drop, getD, take}
-use Rattle.limits.specs.Limits.{areaSize, longest}
+use Rattle.lists.specs.Distinct.{Distinct}
+use Rattle.limits.specs.Limits.{areaSize, longest, longestPath, mostSets, mostPaths}
 use Rattle.walks.specs.Graph.{Graph}
 use Rattle.walks.specs.Walk.{Walk, weightOf, hops}
 use Rattle.walks.specs.Avoid.{Occurs, _⊆_}
 use Rattle.walks.specs.Order.{Lex, _≼⟨_⟩_}
 use Rattle.walks.specs.Best.{Best, None}
+use Rattle.walks.specs.Stutter.{Stutters, ButStutters}
 use Rattle.states.specs.Chosen.{chosen}
 use Rattle.book.specs.declared.Answer.{Answer}
 use Rattle.book.specs.declared.Refusal.{Refusal}
 use Rattle.book.specs.Refusal.{Test, numberOf}
-use Rattle.book.specs.Book.{Book, counts, graph, RuleSet}
+use Rattle.book.specs.Book.{Book, counts, graph, RuleSet, All, allPaths}
 use Rattle.book.specs.Reading.{Reading, accepted, refused, reading, readAs, refusalOf}
 use Rattle.book_bytes.specs.Bytes.{AreBytes, bytesOf, Keeps, longestBook}
 use Rattle.rules.specs.declared.Bound.{Bound}
@@ -29,7 +31,7 @@ use Rattle.walk_check.specs.Checking.{checkTests, checking}
 use Rattle.walk_check.specs.declared.Checked.{Checked}
 use Rattle.planner.specs.declared.Outcome.{Outcome}
 use Rattle.planner.specs.Planning.{planTests, PlanningOf, Planning}
-use Rattle.planner.specs.RuleSets.{Reordered}
+use Rattle.planner.specs.RuleSets.{SameGraph, Reordered}
 use Rattle.ends.specs.Ends.{noEnd}
 use Rattle.reach.specs.declared.Reached.{Reached}
 use Rattle.reach.specs.Reaching.{reachTests, reached, tableAfter, Reaching}
@@ -37,8 +39,8 @@ use Rattle.listed.specs.declared.Arc.{Arc as Item}
 use Rattle.listed.specs.Listing.{listing}
 use Rattle.listed.specs.SameBook.{arcsOf}
 use Rattle.trial_record.specs.declared.Record.{Record}
-use Rattle.trial_rules.specs.Trials.{Report, run, beginTests, ForbiddenSet, overlaid, Plan, Planner, accepted as acceptedFrom, named, failures, passes, replanned}
-use Rattle.judging.specs.Judging.{reportTests}
+use Rattle.trial_rules.specs.Trials.{Report, failed, Valid as ValidState, run, beginTests, ForbiddenSet, overlaid, Plan, Planner, accepted as acceptedFrom, named, failures, passes, replanned}
+use Rattle.judging.specs.Judging.{stateOf, reportTests}
 use Rattle.trials.specs.declared.Begun.{Begun}
 use Rattle.trials.specs.declared.Reported.{Reported}
 use Rattle.trials.specs.Operations.{firstState, beginning, reporting, answering, Leaves}
@@ -48,7 +50,7 @@ use Rattle.series.specs.Whole.{leavesOf, reportsOn}
 use Rattle.demands.specs.Conditions.{Condition}
 use Rattle.demands.specs.Asked.{planConditions, checkConditions, reportConditions, bindConditions, reachConditions, beginConditions, Cause}
 use Rattle.demands.specs.Fields.{BadBook, BadList}
-use Rattle.demands.specs.Marks.{Binds, Clear}
+use Rattle.demands.specs.Marks.{Binds, OfSheet, Clear}
 use Rattle.demands.specs.Calls.{AcceptedBegin, opening, answerOn, acceptedOn, standingIn, TrueReport, TrueLab, HowMany, LabsOnly, LabSet, Free}
 
 -- ==== Demand 1
@@ -216,9 +218,8 @@ pub record SameTrials (l l′ : Leaves Begun) : Type 0 where
   pub runs : (r : Record) → l .answer ≡ Begun.Record r → (spelled (r .known) (l .paths) ⊆ spelled (r .known) (l′ .paths)) × (spelled (r .known) (l′ .paths) ⊆ spelled (r .known) (l .paths))
   pub beyond : drop areaSize (l .paths) ≡ drop areaSize (l′ .paths)
 
--- Of the bytes of two books.
-pub record SameAnswers (s s′ : List ℕ) : Type 0 where
-  pub counts : (flags : ℕ) (area area′ : List ℕ) → areaSize ≤ length area → areaSize ≤ length area′ → boundAs (binding s flags area) ≡ boundAs (binding s′ flags area′)
+-- Of the bytes of two books: equal plans and tables of ends.
+pub record SamePlans (s s′ : List ℕ) : Type 0 where
   -- For every batch, start and end, and every line-up area, refusals included.
   pub plans : (flags : ℕ) (area area′ : List ℕ) → areaSize ≤ length area → areaSize ≤ length area′
       → (n n′ : ℕ) → boundAs (binding s flags area) ≡ Bound.Known n → boundAs (binding s′ flags area′) ≡ Bound.Known n′
@@ -232,6 +233,11 @@ pub record SameAnswers (s s′ : List ℕ) : Type 0 where
       → (start : ℕ) (table : List ℕ)
       → (reached (reading s) (areaAfter (binding s flags area) area) n start table ≡ reached (reading s′) (areaAfter (binding s′ flags area′) area′) n′ start table)
       × (tableAfter (reading s) (areaAfter (binding s flags area) area) n start table ≡ tableAfter (reading s′) (areaAfter (binding s′ flags area′) area′) n′ start table)
+
+-- ... and with them as many known runs, and the same trials.
+pub record SameAnswers (s s′ : List ℕ) : Type 0 where
+  pub counts : (flags : ℕ) (area area′ : List ℕ) → areaSize ≤ length area → areaSize ≤ length area′ → boundAs (binding s flags area) ≡ boundAs (binding s′ flags area′)
+  pub planning : SamePlans s s′
   pub trials : (flags start end : ℕ) (paths walk : List ℕ) → SameTrials (beginning s flags start end paths walk) (beginning s′ flags start end paths walk)
 
 -- ---- the demand
@@ -288,6 +294,51 @@ pub record Order1 : Type 0 where
       → (start : ℕ) → start < b .count → (table : List ℕ) → 2 * b .count ≤ length table
       → (r : Reached) (new : List ℕ) → Reaching (reading s) (areaAfter (binding s flags area) area) n start table r new
       → EveryEnd s b (areaAfter (binding s flags area) area) n start table r new
+
+-- ==== Runs that come back to a grade (02, order 2)
+-- Two to eight grades below the count: all that the rules ask of a run.
+abbrev pub IsRun : ℕ → List ℕ → Type 0
+IsRun count r = (2 ≤ length r) × (length r ≤ longestPath) × All (λ v. v < count) r
+
+-- A failed report on this record and these areas is refused for nothing before 12 (`reportConditions`).
+pub record Tried (b : Book) (q : Record) (paths walk : List ℕ) : Type 0 where
+  pub paths-fit : areaSize ≤ length paths
+  pub walk-fits : longest ≤ length walk
+  pub runs : Valid (b .count) paths (q .known)
+  pub state : ValidState (graph b) (stateOf q paths walk)
+  pub stage : q .stage ≡ 0
+
+-- The same grades and changeovers; and each run of the one's binding sheets is one of the other's, or names a grade twice in succession.
+pub record ButStutteringRuns (b c : Book) : Type 0 where
+  pub same : SameGraph b c
+  pub to : (flags : ℕ) (r : List ℕ) → OfSheet b flags r → OfSheet c flags r ⊎ Stutters r
+  pub from : (flags : ℕ) (r : List ℕ) → OfSheet c flags r → OfSheet b flags r ⊎ Stutters r
+
+pub record Order2 : Type 0 where
+  -- 'A run may name a grade more than once, in a sheet and from the lab. .. Refusals 4, 9 and 12 no longer turn on a grade named twice.' A book is
+  -- read with any runs in its sheets; a runs area holds any different runs; and from the lab any is accepted that stands in the line-up, while there is room.
+  pub in-sheets : (b : Book) → Keeps b → (sets : List RuleSet) → length sets ≤ mostSets → All (λ s. s .flags < 65536) sets → length (allPaths sets) ≤ mostPaths
+      → All (IsRun (b .count)) (allPaths sets)
+      → let c : Book = record { count = b .count; arcs = b .arcs; sets = sets } in reading (bytesOf c) ≡ accepted c
+  pub in-area : (count : ℕ) (F : List (List ℕ)) → length F ≤ mostPaths → Distinct F → All (IsRun count) F → (beyond : List ℕ) → Valid count (written F ++ beyond) (length F)
+  pub from-lab : (s : List ℕ) (b : Book) → reading s ≡ accepted b → (q : Record) (paths walk : List ℕ) → Tried b q paths walk → q .known < mostPaths
+      → (r : List ℕ) → 2 ≤ length r → length r ≤ longestPath → Occurs r (take (q .length) walk)
+      → (q′ : Record) × (reporting s q paths walk (failed r) .answer ≡ Reported.Accepted q′)
+  -- Binding writes the runs of the binding sheets, whatever grades they name again: just these, each once, and as many as it answers.
+  pub bound : (s : List ℕ) (b : Book) → reading s ≡ accepted b → (flags : ℕ) (area : List ℕ) → areaSize ≤ length area → (n : ℕ) → boundAs (binding s flags area) ≡ Bound.Known n
+      → (runs : HowMany (OfSheet b flags) n) × (runs .listed ≡ spelled n (areaAfter (binding s flags area) area))
+  -- 'A run may also name the same grade twice in succession, and then it never occurs.'
+  pub never-occurs : (s : List ℕ) (b : Book) → reading s ≡ accepted b → (r : List ℕ) → Stutters r → (w : List ℕ) → Walk (graph b) w → Occurs r w → ⊥
+  -- So the best line-up is the same with it and without it, and so is that there is none ...
+  pub best : (s : List ℕ) (b : Book) → reading s ≡ accepted b → (F G : List (List ℕ)) → ButStutters F G → ButStutters G F → (start end : ℕ) (w : List ℕ)
+      → Best (graph b) F start end w ↔ Best (graph b) G start end w
+  pub none : (s : List ℕ) (b : Book) → reading s ≡ accepted b → (F G : List (List ℕ)) → ButStutters F G → ButStutters G F → (start end : ℕ)
+      → None (graph b) F start end ↔ None (graph b) G start end
+  -- ... and so are plans and tables of ends, for every batch.
+  pub plans : (s t : List ℕ) (b c : Book) → reading s ≡ accepted b → reading t ≡ accepted c → ButStutteringRuns b c → SamePlans s t
+  -- From the lab it is refused under 12.
+  pub never-named : (s : List ℕ) (b : Book) → reading s ≡ accepted b → (q : Record) (paths walk : List ℕ) → Tried b q paths walk → (r : List ℕ) → Stutters r
+      → (x : Refusal) × (numberOf x .number ≡ 12) × (reporting s q paths walk (failed r) ≡ answering (Reported.Refused x q) paths walk)
 
 -- ==== Demand 3
 -- After an accepted begin β the reports ρs were made, each on what the one before it left. `done` are those that were answered with

@@ -10,15 +10,15 @@ use native.Mathlib.Omega.{arith}
 use borrow.Author.Tests.{lt-ltb, ltb-true, eqb-true, eq-eqb, ne-eqb, not-true}
 use lib.Dec.{eqb, leb, ltb}
 use lib.ListN.{length}
-use Rattle.limits.specs.Limits.{mostVertices, heaviest, mostSets, mostPaths, longestPath}
+use Rattle.limits.specs.Limits.{mostVertices, mostSets, mostPaths, longestPath}
 use Rattle.lists.specs.Test.{and-true, or-false}
 use Rattle.walks.specs.Graph.{Arc}
 use Rattle.book.specs.declared.Kind.{Kind}
 use Rattle.book.specs.declared.Kind.the-variants.{VertexCount, Path, Unknown}
 use Rattle.book.specs.declared.Refusal.{Refusal}
 use Rattle.book.specs.Refusal.{Test, numbered, firstFailure}
-use Rattle.book.specs.Book.{Book, RuleSet, All, IsArc, VerticesOnce, blank, allPaths, given, simple, properArc}
-use Rattle.book.specs.BookLaws.{is-arc, arc-passes, simple-below, simple-once, path-simple, given-cons, not-zero}
+use Rattle.book.specs.Book.{Book, RuleSet, All, IsArc, blank, allPaths, given, properArc}
+use Rattle.book.specs.BookLaws.{is-arc, arc-passes, vertices-below, below-vertices, given-cons, not-zero}
 use Rattle.book.specs.Reading.{accepted, refused, reading, andThen, outcome, fields, field, framing, content, extended, kindAt, lengthAt, endAt, countAt, arcAt, pathAt, follows, fits, proper, fresh, room, addArc, arcTests}
 use Rattle.rules.specs.Sets.{refuted}
 use Rattle.listed.specs.declared.Arc.{Arc as Item}
@@ -42,12 +42,12 @@ Fits Kind.RuleSet n = n ≡ 2
 Fits Path n = (2 ≤ n) × (n ≤ longestPath)
 Fits Unknown n = ⊥
 
--- 4: a count of 1 to 64; two different vertices below the count, and at most 1,000,000; a path of vertices below the count, none named twice.
+-- 4: a count of 1 to 64; two different vertices below the count, and at most 1,000,000; a path of vertices below the count.
 abbrev pub Proper : Kind → List ℕ → Book → ℕ → Type 0
 Proper VertexCount s b at = (1 ≤ countAt s at) × (countAt s at ≤ mostVertices)
 Proper Kind.Arc s b at = IsArc (b .count) (arcAt s at)
 Proper Kind.RuleSet s b at = Unit {0}
-Proper Path s b at = All (λ v. v < b .count) (pathAt s at) × VerticesOnce (pathAt s at)
+Proper Path s b at = All (λ v. v < b .count) (pathAt s at)
 Proper Unknown s b at = Unit {0}
 
 -- 5: no arc of that tail and head before it.
@@ -138,14 +138,11 @@ fits-iff Unknown n = never
 arc-iff : (n : ℕ) (a : Arc) → (properArc n a ≡ true) ↔ IsArc n a
 arc-iff n a = (is-arc n a, arc-passes n a)
 
-simple-iff : (n : ℕ) (p : List ℕ) → (simple n p ≡ true) ↔ (All (λ v. v < n) p × VerticesOnce p)
-simple-iff n p = (λ e. (simple-below n p e, simple-once n p e), λ h. path-simple n p (h .0) (h .1))
-
 proper-iff : (k : Kind) (s : List ℕ) (b : Book) (at : ℕ) → (proper k s b at ≡ true) ↔ Proper k s b at
 proper-iff VertexCount s b at = and-iff (leb 1 (countAt s at)) (leb (countAt s at) mostVertices) (le-iff 1 (countAt s at)) (le-iff (countAt s at) mostVertices)
 proper-iff Kind.Arc s b at = arc-iff (b .count) (arcAt s at)
 proper-iff Kind.RuleSet s b at = nothing-asked
-proper-iff Path s b at = simple-iff (b .count) (pathAt s at)
+proper-iff Path s b at = (vertices-below (b .count) (pathAt s at), below-vertices (b .count) (pathAt s at))
 proper-iff Unknown s b at = nothing-asked
 
 new-iff : (arcs : List Arc) (a : Arc) → (given arcs (a .tail) (a .head) ≡ false) ↔ New arcs a

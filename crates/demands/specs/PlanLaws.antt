@@ -134,7 +134,7 @@ pub one-plan : (s paths : List ℕ) (count start end : ℕ) (old : List ℕ) (r 
     → Planning s paths count start end old r new → Planning s paths count start end old r′ new′ → (r ≡ r′) × (new ≡ new′)
 one-plan s paths count start end old r r′ new new′ p p′ =
     let F = spelled count paths in
-    planned-same (refusalOf (reading s) (planTests paths count start end old)) (graph (bookIn (reading s))) F F (λ _ m. m) (λ _ m. m) start end old r r′ new new′ p p′
+    planned-same (refusalOf (reading s) (planTests paths count start end old)) (graph (bookIn (reading s))) F F (λ _ _ a. a) (λ _ _ a. a) start end old r r′ new new′ p p′
 
 pub batch-plans : (s : List ℕ) (b : Book) → reading s ≡ accepted b → (flags : ℕ) (area : List ℕ) → areaSize ≤ length area
     → (n : ℕ) → boundAs (binding s flags area) ≡ Bound.Known n → (start end : ℕ) → start < b .count → end < b .count → (old : List ℕ) → longest ≤ length old

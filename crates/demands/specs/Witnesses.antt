@@ -1,8 +1,10 @@
 -- The premises of demand 3 can be met: on book A, under marks 3, from 0 to 3, for all lent areas that are long enough, by a lab whose trials end
--- in a passed line-up and by one whose trials end in none. Each of them also makes a report that is refused.
+-- in a passed line-up and by one whose trials end in none. Each of them also makes a report that is refused. And so can the premise of 02, order 2, on plans: book A and
+-- one with the run 1 1 besides.
 use Prim.Native.Nat.{ℕ, _≤_}
 use mathlib.Core.Path.{_≡_, refl, sym, ap, ap₂, subst, _∙_}
-use mathlib.Core.List.{List, [], _∷_, List·Memᴰ·head, List·Memᴰ·tail}
+use mathlib.Core.List.{List, [], _∷_, List·Memᴰ, List·Memᴰ·head, List·Memᴰ·tail, Memᴰ·append-left, List·Memᴰ·append-cases, List·Memᴰ·eq-of-singleton}
+use mathlib.Core.Logic.{inl, inr, ⊎-elim}
 use mathlib.Core.Option.{none, some}
 use native.Mathlib.Omega.{arith}
 use lib.Dec.{T}
@@ -11,9 +13,10 @@ use Rattle.limits.specs.Limits.{areaSize, longest}
 use Rattle.lists.specs.Test.{T→true}
 use Rattle.walks.specs.Avoid.{Occurs, occurs→Occurs, avoids→Avoids}
 use Rattle.walks.specs.Feasible.{isFeasible}
+use Rattle.walks.specs.Stutter.{Stutters}
 use Rattle.book.specs.declared.Refusal.{Refusal}
 use Rattle.book.specs.declared.Refusal.the-variants.{Ended, NotStanding}
-use Rattle.book.specs.Book.{isPath, simple, names}
+use Rattle.book.specs.Book.{RuleSet, isPath, areVertices}
 use Rattle.book.specs.BookLaws.{isPath→IsPath}
 use Rattle.rules.specs.Binding.{covers, applied, once, known}
 use Rattle.trial_record.specs.declared.Record.{Record}
@@ -25,13 +28,14 @@ use Rattle.trials.specs.declared.Begun.{Begun}
 use Rattle.trials.specs.declared.Reported.{Reported}
 use Rattle.trials.specs.Operations.{Leaves, answering, reporting, recordIn}
 use Rattle.series.specs.Whole.{leavesOf, reportOn, reportsOn}
-use Rattle.examples.specs.Books.{bytesA, bookA, book-A}
+use Rattle.examples.specs.Books.{bytesA, bookA, book-A, bytesStutter, bookStutter, book-stutter}
 use Rattle.examples.specs.Sums.{graphA, planA, well-A, begun-3, after-123, after-13, long-after, valid-3, sums}
 use Rattle.examples.specs.Trials.{not-there, too-late}
 use Rattle.demands.specs.Calls.{AcceptedBegin, opening, answerOn, answersOn, acceptedBy, acceptedOn, standingIn, TrueReport, TrueLab, LabSet}
 use Rattle.demands.specs.CallLaws.{many-of-either, refused-kept, report-is, answer-is}
-use Rattle.demands.specs.Demands.{LabOutcome}
+use Rattle.demands.specs.Demands.{LabOutcome, ButStutteringRuns, SamePlans}
 use Rattle.demands.specs.LabLaws.{labs}
+use Rattle.demands.specs.Theorems.{order-2}
 
 -- The runs that are named.
 abbrev pub path-123 : List ℕ
@@ -156,11 +160,11 @@ module _ (paths walk : List ℕ) (fits : areaSize ≤ length paths) (long : long
   long-123 = long-after paths walk fits long (0 ∷ 1 ∷ 3 ∷ 1 ∷ 2 ∷ 3 ∷ []) refl
 
   valid-123 : Valid graphA σ₁
-  unfolding isValid isRecord isForbiddenSet once isFeasible isPath simple names
+  unfolding isValid isRecord isForbiddenSet once isFeasible isPath areVertices
   valid-123 = isValid→Valid graphA σ₁ tt
 
   valid-13 : Valid graphA σ₂
-  unfolding isValid isRecord isForbiddenSet once isFeasible isPath simple names
+  unfolding isValid isRecord isForbiddenSet once isFeasible isPath areVertices
   valid-13 = isValid→Valid graphA σ₂ tt
 
   -- 0 1 3 passes
@@ -207,10 +211,30 @@ module _ (paths walk : List ℕ) (fits : areaSize ≤ length paths) (long : long
       stands-123
 
 pub witnesses : Witnesses
-unfolding covers applied isForbiddenSet once isPath simple names lacking
+unfolding covers applied isForbiddenSet once isPath areVertices lacking
 witnesses =
     record {
       ends-passed = λ paths walk fits long. trial paths walk fits long (labs-set (path-123 ∷ []) tt (omega arith)) (passing paths walk fits long);
       ends-none = λ paths walk fits long. trial paths walk fits long (labs-set (path-123 ∷ path-13 ∷ []) tt (omega arith)) (failing paths walk fits long);
       not-true = not-true;
     }
+
+-- ---- 02, order 2
+stutter-11 : Stutters (1 ∷ 1 ∷ [])
+stutter-11 = record { first = 0; second = 1; next = refl; within = omega arith; again = refl }
+
+but-11 : ButStutteringRuns bookA bookStutter
+but-11 =
+    record {
+      same = record { counts = refl; arcs = refl };
+      to = λ flags r o. inl (record { set = o .set; listed = Memᴰ·append-left _ (o .listed); binds = o .binds; path = o .path });
+      from = λ flags r o.
+          ⊎-elim (λ m. inl (record { set = o .set; listed = m; binds = o .binds; path = o .path }))
+          (λ m.
+          let path : List·Memᴰ r ((1 ∷ 1 ∷ []) ∷ []) = subst (λ (set : RuleSet). List·Memᴰ r (set .paths)) (List·Memᴰ·eq-of-singleton m) (o .path) in
+          inr (subst Stutters (sym (List·Memᴰ·eq-of-singleton path)) stutter-11))
+          (List·Memᴰ·append-cases (bookA .sets) (o .listed));
+    }
+
+pub plans-11 : SamePlans bytesA bytesStutter
+plans-11 = order-2 .plans bytesA bytesStutter bookA bookStutter book-A book-stutter but-11

@@ -3,7 +3,7 @@ use Prim.Native.Nat.{ℕ}
 use mathlib.Core.Path.{_≡_, refl}
 use mathlib.Core.List.{List, [], _∷_, _++_}
 use Rattle.book.specs.declared.Refusal.the-variants.{Truncated, Value}
-use Rattle.book.specs.Book.{Book, allPaths, names, simple}
+use Rattle.book.specs.Book.{Book, allPaths, areVertices}
 use Rattle.book.specs.Reading.{accepted, refused, reading, fields, addPath}
 
 -- Book A of 01
@@ -41,8 +41,24 @@ bookA =
     }
 
 pub book-A : reading bytesA ≡ accepted bookA
-unfolding reading fields names simple addPath allPaths
+unfolding reading fields areVertices addPath allPaths
 book-A = refl
+
+-- Book A with one more rule set, which applies to every batch and whose path names 1 twice in succession.
+abbrev pub bytesStutter : List ℕ
+bytesStutter = bytesA ++ (0x03 ∷ 0x00 ∷ 0x02 ∷ 0x00 ∷ 0x00 ∷ 0x04 ∷ 0x00 ∷ 0x02 ∷ 0x01 ∷ 0x01 ∷ [])
+
+abbrev pub bookStutter : Book
+bookStutter =
+    record {
+      count = 4;
+      arcs = bookA .arcs;
+      sets = bookA .sets ++ (record { flags = 0; paths = (1 ∷ 1 ∷ []) ∷ [] } ∷ []);
+    }
+
+pub book-stutter : reading bytesStutter ≡ accepted bookStutter
+unfolding reading fields areVertices addPath allPaths
+book-stutter = refl
 
 -- Two ways of one weight from 0 to 3; and with an arc of that weight.
 abbrev pub bytesWays : List ℕ

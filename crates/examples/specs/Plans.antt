@@ -37,27 +37,33 @@ Gives s flags start end r w =
     (area : List ℕ) (F : List (List ℕ)) → binding s flags area ≡ Binding.bound F → (old : List ℕ) → longest ≤ length old
     → Only (Planning s (areaAfter (binding s flags area) area) (length F) start end old) r (w ++ drop (length w) old)
 
+-- the answer that the definitions have under the runs that an area spells is the one that is given
+pub under : (s : List ℕ) (b : Book) → reading s ≡ accepted b → (start end : ℕ) → ltb start (b .count) ≡ true → ltb end (b .count) ≡ true
+    → (area : List ℕ) (n : ℕ) (F : List (List ℕ)) → areaSize ≤ length area → valid (b .count) area n ≡ true → spelled n area ≡ F
+    → (old : List ℕ) → longest ≤ length old → (r : Outcome) (new : List ℕ) → Planned none (graph b) F start end old r new → Only (Planning s area n start end old) r new
+under s b read start end start-below end-below area n F fits valid-b spells old long r new have =
+    let unrefused : refusalBy (planTests area n start end old b) ≡ none =
+    hold→none (planTests area n start end old b) (le-leb areaSize (length area) fits, (le-leb longest (length old) long, (start-below, (end-below, (valid-b, tt))))) in
+    let meets : Planning s area n start end old r new =
+    subst (λ x. PlanningOf x area n start end old r new) (sym read)
+    (subst (λ o. Planned o (graph b) (spelled n area) start end old r new) (sym unrefused)
+    (subst (λ G. Planned none (graph b) G start end old r new) (sym spells) have)) in
+    let o = refusalOf (reading s) (planTests area n start end old) in
+    let G = spelled n area in
+    record { meets = meets; alone = λ r′ new′ p. planned-same o (graph (bookIn (reading s))) G G (λ _ _ a. a) (λ _ _ a. a) start end old r′ r new′ new p meets }
+
 module _ (s : List ℕ) (b : Book) (read : reading s ≡ accepted b) (flags start end : ℕ) (start-below : ltb start (b .count) ≡ true) (end-below : ltb end (b .count) ≡ true) where
-  -- the answer that the definitions have is the one that is given
+  -- so is the one that they have under the known runs
   given : (r : Outcome) (w : List ℕ) → ((old : List ℕ) → Planned none (graph b) (known flags (b .sets)) start end old r (w ++ drop (length w) old)) → Gives s flags start end r w
   given r w have area F is old long =
       let f = bind-accepted s flags area F is in
       let after = areaAfter (binding s flags area) area in
-      let new = w ++ drop (length w) old in
       let b-is : f .book ≡ b = ap bookIn (sym (f .read) ∙ read) in
       let valid-b : valid (b .count) after (length F) ≡ true = subst (λ (x : Book). valid (x .count) after (length F) ≡ true) b-is (f .validity) in
-      let unrefused : refusalBy (planTests after (length F) start end old b) ≡ none =
-      hold→none (planTests after (length F) start end old b) (le-leb areaSize (length after) (f .long), (le-leb longest (length old) long, (start-below, (end-below, (valid-b, tt))))) in
       let spells : spelled (length F) after ≡ known flags (b .sets) = f .spells ∙ f .paths ∙ ap (λ (x : Book). known flags (x .sets)) b-is in
-      let meets : Planning s after (length F) start end old r new =
-      subst (λ x. PlanningOf x after (length F) start end old r new) (sym read)
-      (subst (λ o. Planned o (graph b) (spelled (length F) after) start end old r new) (sym unrefused)
-      (subst (λ G. Planned none (graph b) G start end old r new) (sym spells) (have old))) in
-      let o = refusalOf (reading s) (planTests after (length F) start end old) in
-      let G = spelled (length F) after in
-      record { meets = meets; alone = λ r′ new′ p. planned-same o (graph (bookIn (reading s))) G G (λ _ m. m) (λ _ m. m) start end old r′ r new′ new p meets }
+      under s b read start end start-below end-below after (length F) (known flags (b .sets)) (f .long) valid-b spells old long r (w ++ drop (length w) old) (have old)
 
-  walk-given : (w : List ℕ) (n k : ℕ) → Plan (graph b) (known flags (b .sets)) start end w n k → Gives s flags start end (Walk n k) w
+  pub walk-given : (w : List ℕ) (n k : ℕ) → Plan (graph b) (known flags (b .sets)) start end w n k → Gives s flags start end (Walk n k) w
   walk-given w n k p = given (Walk n k) w (λ old. record { walk = w; best = p .best; weight-is = sym (p .weighs); hops-is = sym (p .takes); area-is = refl })
 
   none-given : None (graph b) (known flags (b .sets)) start end → Gives s flags start end Nothing []

@@ -15,11 +15,11 @@ pub record Prints (s text : List ℕ) : Type 0 where
   pub answered : Answered s text
   pub alone : (x : List ℕ) → Answered s x → x ≡ text
 
-prints : (s text : List ℕ) → Answered s text → Prints s text
+pub prints : (s text : List ℕ) → Answered s text → Prints s text
 prints s text have = record { answered = have; alone = λ x p. Answered-unique s x text p have }
 
 -- `LITRES 450 CHANGES 5`, `0 1 2 1 2 3`
-abbrev listing : List ℕ
+abbrev pub listing : List ℕ
 listing =
     76 ∷ 73 ∷ 84 ∷ 82 ∷ 69 ∷ 83 ∷ 32 ∷ 52 ∷ 53 ∷ 48 ∷ 32 ∷ 67 ∷ 72 ∷ 65 ∷ 78 ∷ 71 ∷ 69 ∷ 83 ∷ 32 ∷ 53 ∷ 10
     ∷ 48 ∷ 32 ∷ 49 ∷ 32 ∷ 50 ∷ 32 ∷ 49 ∷ 32 ∷ 50 ∷ 32 ∷ 51 ∷ 10

@@ -6,8 +6,10 @@ use mathlib.Core.List.{List, [], _∷_, _++_}
 use mathlib.Core.Option.{Option, none}
 use native.Mathlib.Omega.{arith}
 use borrow.Author.Tests.{le-leb}
+use lib.Dec.{T}
 use lib.ListN.{length, drop, length-append, length-drop}
 use Rattle.walks.specs.Graph.{Graph}
+use Rattle.walks.specs.Best.{Best}
 use Rattle.walks.specs.Feasible.{isFeasible}
 use Rattle.book.specs.declared.Answer.{Answer}
 use Rattle.book.specs.declared.Answer.the-variants.{Read}
@@ -15,7 +17,7 @@ use Rattle.book.specs.declared.Refusal.{Refusal}
 use Rattle.book.specs.declared.Refusal.the-variants.{Truncated, Value}
 use Rattle.book.specs.Refusal.{numberOf, refusalBy}
 use Rattle.book.specs.RefusalLaws.{hold→none}
-use Rattle.book.specs.Book.{Book, WellFormed, allPaths, graph, isPath, simple, names}
+use Rattle.book.specs.Book.{Book, WellFormed, allPaths, graph, isPath, areVertices}
 use Rattle.book.specs.BookLaws.{reading-is-book}
 use Rattle.book.specs.Reading.{accepted, reading, readAs}
 use Rattle.examples.specs.Books.{bytesA, bookA, book-A, bytesWays, bookWays, book-ways, bytesShortcut, bookShortcut, book-shortcut, count-64, count-65, no-body}
@@ -84,15 +86,18 @@ begun-3 paths walk =
       area = 0 ∷ 1 ∷ 2 ∷ 1 ∷ 2 ∷ 3 ∷ drop 6 walk;
     }
 
--- Named 1 2 3: 0 1 3, 500. The bytes after it are those that stood there.
-abbrev pub after-123 : Stands
-after-123 paths walk =
+-- A path r is named under which the plan is 0 1 3, 500. The bytes after it are those that stood there.
+abbrev pub after-one : List ℕ → Stands
+after-one r paths walk =
     record {
       rec = record { stage = 0; start = 0; end = 3; known = 3; first = 2; failed = 1; passed = 0; litres = 500; length = 3 };
-      forbidden = (0 ∷ 1 ∷ 2 ∷ 3 ∷ []) ∷ (0 ∷ 2 ∷ 3 ∷ []) ∷ (1 ∷ 2 ∷ 3 ∷ []) ∷ [];
+      forbidden = (0 ∷ 1 ∷ 2 ∷ 3 ∷ []) ∷ (0 ∷ 2 ∷ 3 ∷ []) ∷ r ∷ [];
       beyond = drop areaSize paths;
       area = 0 ∷ 1 ∷ 3 ∷ 1 ∷ 2 ∷ 3 ∷ drop 6 walk;
     }
+
+abbrev pub after-123 : Stands
+after-123 = after-one (1 ∷ 2 ∷ 3 ∷ [])
 
 -- Then named 1 3: none. The line-up area is untouched.
 abbrev pub after-13 : Stands
@@ -139,7 +144,7 @@ pub binds : (s : List ℕ) (b : Book) → reading s ≡ accepted b → (flags : 
 binds s b read flags paths fits =
     ap (λ x. bindingOf x flags paths) read ∙ ap (λ o. boundUnless o (known flags (b .sets))) (hold→none (bindTests paths b) (le-leb areaSize (length paths) fits, tt))
 
-plans : (s : List ℕ) (b : Book) → reading s ≡ accepted b → (flags start end : ℕ) (r : Outcome) (w : List ℕ) → Gives s flags start end r w → Plans s flags start end r w
+pub plans : (s : List ℕ) (b : Book) → reading s ≡ accepted b → (flags start end : ℕ) (r : Outcome) (w : List ℕ) → Gives s flags start end r w → Plans s flags start end r w
 plans s b read flags start end r w gives paths walk fits long =
     let is = binds s b read flags paths fits in
     (known flags (b .sets), is, gives paths (known flags (b .sets)) is walk long)
@@ -158,8 +163,8 @@ abbrev plannerA : Planner graphA planA
 plannerA = chosen-planner bookA well-A
 
 -- An accepted report, as an operation and as one of a list.
-record Taken (σ : State) (ρ : Report) (τ : State) : Type 0 where
-  left : reporting bytesA (σ .rec) (pathArea σ) (σ .area) ρ ≡ leaving (Reported.Accepted (τ .rec)) τ
+pub record Taken (σ : State) (ρ : Report) (τ : State) : Type 0 where
+  pub left : reporting bytesA (σ .rec) (pathArea σ) (σ .area) ρ ≡ leaving (Reported.Accepted (τ .rec)) τ
   next : after graphA planA σ ρ ≡ τ
 
 taken : (σ : State) (ρ : Report) (τ : State) → longest ≤ length (σ .area) → Valid graphA σ → refusalBy (oracleTests graphA σ ρ) ≡ none
@@ -188,7 +193,7 @@ module _ (paths walk : List ℕ) (fits : areaSize ≤ length paths) (long : long
   opens = hold→none (beginTests graphA 0 3 paths walk) (le-leb areaSize (length paths) fits, (le-leb longest (length walk) long, (refl, (refl, tt))))
 
   pub first-is : firstState bookA 3 0 3 paths walk ≡ σ₀
-  unfolding covers applied isForbiddenSet once isPath simple names
+  unfolding covers applied isForbiddenSet once isPath areVertices
   first-is =
       ap (λ (p : Option (List ℕ)). holding graphA p (σ₀ .forbidden) 0 3 2 0 (drop areaSize paths) walk)
       (plan-best plannerA (isForbiddenSet→ 4 (σ₀ .forbidden) tt) (omega arith) (omega arith) (marks-3 .best))
@@ -201,43 +206,54 @@ module _ (paths walk : List ℕ) (fits : areaSize ≤ length paths) (long : long
   long-after front six = simp (length-append, length-drop) (omega (arith, long, six))
 
   pub valid-3 : Valid graphA σ₀
-  unfolding isValid isRecord isForbiddenSet once isFeasible isPath simple names
+  unfolding isValid isRecord isForbiddenSet once isFeasible isPath areVertices
   valid-3 = isValid→Valid graphA σ₀ tt
 
   valid-123 : Valid graphA σ₁
-  unfolding isValid isRecord isForbiddenSet once isFeasible isPath simple names
+  unfolding isValid isRecord isForbiddenSet once isFeasible isPath areVertices
   valid-123 = isValid→Valid graphA σ₁ tt
 
-  step-123 : step graphA planA σ₀ (failed (1 ∷ 2 ∷ 3 ∷ [])) ≡ σ₁
-  unfolding isForbiddenSet once isPath simple names
-  step-123 =
-      ap (λ (p : Option (List ℕ)). holding graphA p (σ₁ .forbidden) 0 3 2 1 (σ₀ .beyond) (σ₀ .area))
-      (plan-best plannerA (isForbiddenSet→ 4 (σ₁ .forbidden) tt) (omega arith) (omega arith) (named-123 .best))
+  -- a path that stands in the first walk is named, and the plan is then 0 1 3
+  module _
+      (r : List ℕ) (set : T (isForbiddenSet 4 (after-one r paths walk .forbidden))) (stands : refusalBy (oracleTests graphA σ₀ (failed r)) ≡ none)
+      (best : Best graphA (after-one r paths walk .forbidden) 0 3 (0 ∷ 1 ∷ 3 ∷ []))
+    where
+      step-one : step graphA planA σ₀ (failed r) ≡ after-one r paths walk
+      step-one =
+          ap (λ (p : Option (List ℕ)). holding graphA p (after-one r paths walk .forbidden) 0 3 2 1 (σ₀ .beyond) (σ₀ .area))
+          (plan-best plannerA (isForbiddenSet→ 4 (after-one r paths walk .forbidden) set) (omega arith) (omega arith) best)
+
+      pub taken-one : Taken σ₀ (failed r) (after-one r paths walk)
+      taken-one = taken σ₀ (failed r) (after-one r paths walk) (long-after (0 ∷ 1 ∷ 2 ∷ 1 ∷ 2 ∷ 3 ∷ []) refl) valid-3 stands step-one
+
+      pub run-one : run graphA planA (firstState bookA 3 0 3 paths walk) (failed r ∷ []) ≡ after-one r paths walk
+      unfolding run
+      run-one = ap (λ (σ : State). after graphA planA σ (failed r)) first-is ∙ taken-one .next
 
   step-13 : step graphA planA σ₁ (failed (1 ∷ 3 ∷ [])) ≡ σ₂
-  unfolding isForbiddenSet once isPath simple names
+  unfolding isForbiddenSet once isPath areVertices
   step-13 =
       ap (λ (p : Option (List ℕ)). holding graphA p (σ₂ .forbidden) 0 3 2 2 (σ₁ .beyond) (σ₁ .area))
       (plan-none plannerA (isForbiddenSet→ 4 (σ₂ .forbidden) tt) (omega arith) (omega arith) named-13)
 
   taken-123 : Taken σ₀ (failed (1 ∷ 2 ∷ 3 ∷ [])) σ₁
-  unfolding isPath simple names
-  taken-123 = taken σ₀ (failed (1 ∷ 2 ∷ 3 ∷ [])) σ₁ (long-after (0 ∷ 1 ∷ 2 ∷ 1 ∷ 2 ∷ 3 ∷ []) refl) valid-3 refl step-123
+  unfolding isForbiddenSet once isPath areVertices
+  taken-123 = taken-one (1 ∷ 2 ∷ 3 ∷ []) tt refl (named-123 .best)
 
   taken-13 : Taken σ₁ (failed (1 ∷ 3 ∷ [])) σ₂
-  unfolding isPath simple names
+  unfolding isPath areVertices
   taken-13 = taken σ₁ (failed (1 ∷ 3 ∷ [])) σ₂ (long-after (0 ∷ 1 ∷ 3 ∷ 1 ∷ 2 ∷ 3 ∷ []) refl) valid-123 refl step-13
 
   -- the lists of reports
   pub run-123 : run graphA planA (firstState bookA 3 0 3 paths walk) (failed (1 ∷ 2 ∷ 3 ∷ []) ∷ []) ≡ σ₁
-  unfolding run
-  run-123 = ap (λ (σ : State). after graphA planA σ (failed (1 ∷ 2 ∷ 3 ∷ []))) first-is ∙ taken-123 .next
+  unfolding isForbiddenSet once isPath areVertices
+  run-123 = run-one (1 ∷ 2 ∷ 3 ∷ []) tt refl (named-123 .best)
 
   run-13 : run graphA planA (firstState bookA 3 0 3 paths walk) (failed (1 ∷ 2 ∷ 3 ∷ []) ∷ failed (1 ∷ 3 ∷ []) ∷ []) ≡ σ₂
   unfolding run
   run-13 = ap (λ (σ : State). after graphA planA σ (failed (1 ∷ 3 ∷ []))) run-123 ∙ taken-13 .next
 
-  replays : (reports : List ℕ) (σ : State) → run graphA planA (firstState bookA 3 0 3 paths walk) (reportsOf reports) ≡ σ
+  pub replays : (reports : List ℕ) (σ : State) → run graphA planA (firstState bookA 3 0 3 paths walk) (reportsOf reports) ≡ σ
       → replaying bytesA 3 0 3 reports paths walk ≡ leaving (Begun.Record (σ .rec)) σ
   replays reports σ e =
       ap (λ x. replayingOf x 3 0 3 reports paths walk) book-A ∙ ap₂ (λ x (τ : State). begunAs x τ paths walk) opens e

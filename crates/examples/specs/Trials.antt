@@ -10,7 +10,7 @@ use Rattle.walks.specs.Avoid.{occurs→Occurs}
 use Rattle.walks.specs.Feasible.{isFeasible}
 use Rattle.book.specs.declared.Refusal.the-variants.{Ended, NotStanding}
 use Rattle.book.specs.Refusal.{refusalBy}
-use Rattle.book.specs.Book.{isPath, simple, names}
+use Rattle.book.specs.Book.{isPath, areVertices}
 use Rattle.examples.specs.Books.{bookA}
 use Rattle.rules.specs.Binding.{covers, applied, once}
 use Rattle.limits.specs.Limits.{areaSize, longest}
@@ -32,7 +32,7 @@ module _ (paths walk : List ℕ) (fits : areaSize ≤ length paths) (long : long
 
   -- The oracle with these two paths is true, in reports that name them.
   pub oracle-set : OracleSet trialsA oracles
-  unfolding covers applied isForbiddenSet once isPath simple names lacking
+  unfolding covers applied isForbiddenSet once isPath areVertices lacking
   oracle-set = record { taken = isForbiddenSet→ 4 oracles tt .taken; few = omega arith }
 
   pub oracle-true : TrueOracle trialsA oracles (failed (1 ∷ 2 ∷ 3 ∷ []) ∷ failed (1 ∷ 3 ∷ []) ∷ [])
@@ -47,30 +47,30 @@ module _ (paths walk : List ℕ) (fits : areaSize ≤ length paths) (long : long
     ),
   )
 
-  -- Refused at the start: a path that stands in the walk and names a vertex twice, one of one vertex, one that does not stand in the walk,
-  -- one that is known already. Refused at the end: a passed report.
-  at-start : (r : List ℕ) → refusal graphA (begun-3 paths walk) (failed r) ≡ refusalBy (oracleTests graphA (begun-3 paths walk) (failed r))
+  -- Refused at the start: a path that names a vertex twice in succession, one of one vertex, one that does not stand in the walk, one that is
+  -- known already. Refused at the end: a passed report.
+  pub at-start : (r : List ℕ) → refusal graphA (begun-3 paths walk) (failed r) ≡ refusalBy (oracleTests graphA (begun-3 paths walk) (failed r))
   at-start r =
       only-oracle graphA (begun-3 paths walk) (failed r) (long-after paths walk fits long (0 ∷ 1 ∷ 2 ∷ 1 ∷ 2 ∷ 3 ∷ []) refl) (valid-3 paths walk fits long)
 
-  pub named-twice : refusal graphA (begun-3 paths walk) (failed (2 ∷ 1 ∷ 2 ∷ [])) ≡ some NotStanding
-  unfolding isPath simple names
-  named-twice = at-start (2 ∷ 1 ∷ 2 ∷ [])
+  pub in-succession : refusal graphA (begun-3 paths walk) (failed (1 ∷ 1 ∷ [])) ≡ some NotStanding
+  unfolding isPath areVertices
+  in-succession = at-start (1 ∷ 1 ∷ [])
 
   pub too-short : refusal graphA (begun-3 paths walk) (failed (1 ∷ [])) ≡ some NotStanding
-  unfolding isPath simple names
+  unfolding isPath areVertices
   too-short = at-start (1 ∷ [])
 
   pub not-there : refusal graphA (begun-3 paths walk) (failed (1 ∷ 3 ∷ [])) ≡ some NotStanding
-  unfolding isPath simple names
+  unfolding isPath areVertices
   not-there = at-start (1 ∷ 3 ∷ [])
 
   pub known-already : refusal graphA (begun-3 paths walk) (failed (0 ∷ 1 ∷ 2 ∷ 3 ∷ [])) ≡ some NotStanding
-  unfolding isPath simple names
+  unfolding isPath areVertices
   known-already = at-start (0 ∷ 1 ∷ 2 ∷ 3 ∷ [])
 
   valid-13 : Valid graphA (after-13 paths walk)
-  unfolding isValid isRecord isForbiddenSet once isFeasible isPath simple names
+  unfolding isValid isRecord isForbiddenSet once isFeasible isPath areVertices
   valid-13 = isValid→Valid graphA (after-13 paths walk) tt
 
   pub too-late : refusal graphA (after-13 paths walk) passed ≡ some Ended

@@ -42,7 +42,7 @@ pub marks-3 : Plan bookA forbiddenA 0 3 bestA 450 5
 unfolding state go blocked
 marks-3 = record { best = certified-best bookA forbiddenA 3 (at (0 ∷ []) 450 5 ∷ at (1 ∷ []) 200 2 ∷ at (2 ∷ []) 100 1 ∷ at (3 ∷ []) 0 0 ∷ at (1 ∷ 0 ∷ []) 350 4 ∷ at (2 ∷ 1 ∷ 0 ∷ []) 250 3 ∷ at (2 ∷ 0 ∷ []) 250 3 ∷ []) 0 (1 ∷ 2 ∷ 1 ∷ 2 ∷ 3 ∷ []) tt; weighs = refl; takes = refl }
 
--- From marks 3, named 1 2 3; then named 1 3.
+-- From marks 3, named 1 2 3; then named 1 3. Or named 1 2 1.
 pub named-123 : Plan bookA ((0 ∷ 1 ∷ 2 ∷ 3 ∷ []) ∷ (0 ∷ 2 ∷ 3 ∷ []) ∷ (1 ∷ 2 ∷ 3 ∷ []) ∷ []) 0 3 (0 ∷ 1 ∷ 3 ∷ []) 500 2
 unfolding state go blocked
 named-123 = record { best = certified-best bookA ((0 ∷ 1 ∷ 2 ∷ 3 ∷ []) ∷ (0 ∷ 2 ∷ 3 ∷ []) ∷ (1 ∷ 2 ∷ 3 ∷ []) ∷ []) 3 (at (0 ∷ []) 500 2 ∷ at (1 ∷ []) 400 1 ∷ at (2 ∷ []) 100 1 ∷ at (3 ∷ []) 0 0 ∷ at (1 ∷ 0 ∷ []) 400 1 ∷ at (2 ∷ 1 ∷ 0 ∷ []) 450 2 ∷ at (2 ∷ 0 ∷ []) 450 2 ∷ at (2 ∷ 1 ∷ []) 450 2 ∷ []) 0 (1 ∷ 3 ∷ []) tt; weighs = refl; takes = refl }
@@ -50,6 +50,10 @@ named-123 = record { best = certified-best bookA ((0 ∷ 1 ∷ 2 ∷ 3 ∷ []) �
 pub named-13 : None bookA ((0 ∷ 1 ∷ 2 ∷ 3 ∷ []) ∷ (0 ∷ 2 ∷ 3 ∷ []) ∷ (1 ∷ 2 ∷ 3 ∷ []) ∷ (1 ∷ 3 ∷ []) ∷ []) 0 3
 unfolding state go blocked
 named-13 = certified-none bookA ((0 ∷ 1 ∷ 2 ∷ 3 ∷ []) ∷ (0 ∷ 2 ∷ 3 ∷ []) ∷ (1 ∷ 2 ∷ 3 ∷ []) ∷ (1 ∷ 3 ∷ []) ∷ []) 3 (off (0 ∷ []) ∷ off (1 ∷ []) ∷ at (2 ∷ []) 100 1 ∷ at (3 ∷ []) 0 0 ∷ off (1 ∷ 0 ∷ []) ∷ off (2 ∷ 1 ∷ 0 ∷ []) ∷ off (2 ∷ 0 ∷ []) ∷ off (2 ∷ 1 ∷ []) ∷ []) 0 tt refl
+
+pub named-121 : Plan bookA ((0 ∷ 1 ∷ 2 ∷ 3 ∷ []) ∷ (0 ∷ 2 ∷ 3 ∷ []) ∷ (1 ∷ 2 ∷ 1 ∷ []) ∷ []) 0 3 (0 ∷ 1 ∷ 3 ∷ []) 500 2
+unfolding state go blocked
+named-121 = record { best = certified-best bookA ((0 ∷ 1 ∷ 2 ∷ 3 ∷ []) ∷ (0 ∷ 2 ∷ 3 ∷ []) ∷ (1 ∷ 2 ∷ 1 ∷ []) ∷ []) 3 (at (0 ∷ []) 500 2 ∷ at (1 ∷ []) 200 2 ∷ at (3 ∷ []) 0 0 ∷ at (1 ∷ 0 ∷ []) 400 1 ∷ off (2 ∷ 1 ∷ 0 ∷ []) ∷ at (2 ∷ 0 ∷ []) 250 3 ∷ at (2 ∷ 1 ∷ []) 100 1 ∷ []) 0 (1 ∷ 3 ∷ []) tt; weighs = refl; takes = refl }
 
 -- Start 3, end 0; start 3, end 3.
 pub back : None bookA [] 3 0

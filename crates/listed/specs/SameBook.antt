@@ -71,5 +71,5 @@ pub same-plan : (s : List ℕ) (b : Book) → reading s ≡ accepted b → (n : 
 same-plan s b read n xs n-is same paths count start end old r r′ new new′ p p′ =
     let in-book : (r : Outcome) (new : List ℕ) → Planning s paths count start end old r new → PlanningOf (accepted b) paths count start end old r new =
     λ r new q. subst (λ x. PlanningOf x paths count start end old r new) read q in
-    planned-same (refusalBy (planTests paths count start end old b)) (graph b) (spelled count paths) (spelled count paths) (λ _ m. m) (λ _ m. m) start end old r r′ new new′
+    planned-same (refusalBy (planTests paths count start end old b)) (graph b) (spelled count paths) (spelled count paths) (λ _ _ a. a) (λ _ _ a. a) start end old r r′ new new′
     (in-book r new (from-book s b read n xs n-is same paths count start end old r new p)) (in-book r′ new′ p′)

@@ -27,6 +27,21 @@ pub record Best (g : Graph) (F : List (List ℕ)) (s t : ℕ) (w : List ℕ) : T
 abbrev pub None : Graph → List (List ℕ) → ℕ → ℕ → Type 0
 None g F s t = (w : List ℕ) → Feasible g F s t w → ⊥
 
+-- G is no stricter than F: each walk of g that avoids F avoids G.
+abbrev pub NoStricter : Graph → List (List ℕ) → List (List ℕ) → Type 0
+NoStricter g F G = (w : List ℕ) → Walk g w → Avoids F w → Avoids G w
+
+-- Only the walks that are left count: neither the order nor the repetition of forbidden paths, nor one that occurs in no walk.
+module _ {g : Graph} {s t : ℕ} where
+  Feasible·looser : {F G : List (List ℕ)} → NoStricter g F G → {w : List ℕ} → Feasible g F s t w → Feasible g G s t w
+  Feasible·looser to {w} f = record { walk = f .walk; starts = f .starts; ends = f .ends; clear = to w (f .walk) (f .clear) }
+
+  pub Best·same : {F G : List (List ℕ)} → NoStricter g F G → NoStricter g G F → {w : List ℕ} → Best g F s t w → Best g G s t w
+  Best·same to from b = record { feasible = Feasible·looser to (b .feasible); least = λ v f. b .least v (Feasible·looser from f) }
+
+  pub None·same : {F G : List (List ℕ)} → NoStricter g G F → None g F s t → None g G s t
+  None·same from n w f = n w (Feasible·looser from f)
+
 module _ {g : Graph} {F : List (List ℕ)} {s t : ℕ} where
   -- A feasible walk is its start and what follows.
   pub Feasible·cons : (w : List ℕ) → Feasible g F s t w → (c : List ℕ) × (w ≡ s ∷ c)
@@ -41,7 +56,7 @@ module _ {g : Graph} {F : List (List ℕ)} {s t : ℕ} where
 
   module _ {F′ : List (List ℕ)} (more : F ⊆ F′) where
     pub Feasible·mono : {w : List ℕ} → Feasible g F′ s t w → Feasible g F s t w
-    Feasible·mono f = record { walk = f .walk; starts = f .starts; ends = f .ends; clear = Avoids·mono more (f .clear) }
+    Feasible·mono f = Feasible·looser (λ w _. Avoids·mono more) f
 
     -- A best walk that avoids the added paths too is still the best.
     pub Best·mono : {w : List ℕ} → Best g F s t w → Avoids F′ w → Best g F′ s t w
@@ -55,10 +70,6 @@ module _ {g : Graph} {F : List (List ℕ)} {s t : ℕ} where
     -- More forbidden paths never make the best walk lighter.
     pub Best·weight-mono : {v w : List ℕ} → Best g F s t v → Best g F′ s t w → weightOf g v ≤ weightOf g w
     Best·weight-mono {v} {w} b c = ≼-weight g v w (b .least w (Feasible·mono (c .feasible)))
-
-    -- Only the set of forbidden paths counts, not their order or repetition. (For None that is None·mono, either way.)
-    pub Best·same-set : {w : List ℕ} → F′ ⊆ F → Best g F s t w → Best g F′ s t w
-    Best·same-set less b = Best·mono b (Avoids·mono less (b .feasible .clear))
 
 -- Where each path of F has two vertices or more, staying at the start is best (01: start equal to end gives that one grade).
 pub Best·stay : {g : Graph} {F : List (List ℕ)} {s : ℕ} → Long F → s < g .count → Best g F s s (s ∷ [])

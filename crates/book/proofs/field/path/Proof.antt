@@ -6,7 +6,7 @@ use mathlib.Core.Bool.{Bool}
 use mathlib.Core.Path.{_≡_, sym, ap, _∙_}
 use Prim.Native.Nat.{_+_}
 use lib.Seq.{slice}
-use Rattle.book.specs.Book.{simple}
+use Rattle.book.specs.Book.{areVertices}
 use Rattle.book.specs.Reading.{pathAt}
 use Rattle.book.proofs.PathField.{path-improper, path-many, path-added, copied}
 use Rattle.book.proofs.field.path.Statement.{statement}
@@ -18,8 +18,8 @@ field-end-requires c κs = search needs
 add-from : tie.Need-add-from
 add-from c = search needs
 
-simple-requires : tie.Need-simple-requires
-simple-requires c κs = search needs
+are-vertices-requires : tie.Need-are-vertices-requires
+are-vertices-requires c κs = search needs
 
 sub-n : tie.Need-sub-n
 sub-n c = search needs
@@ -54,24 +54,24 @@ copy-requires c κs = search needs
 add-t14 : tie.Need-add-t14
 add-t14 c = search needs
 
-tested : (c : tie.After-simple) (x : Bool) → c .simple .result ≡ x
-    → let a = c .before .before .before .args in simple (a .counts .vertices) (pathAt (now (a .bytes)) (a .at)) ≡ x
+tested : (c : tie.After-are-vertices) (x : Bool) → c .are-vertices .result ≡ x
+    → let a = c .before .before .before .args in areVertices (a .counts .vertices) (pathAt (now (a .bytes)) (a .at)) ≡ x
 tested c x e =
     let a = c .before .before .before .args in
-    ap (λ t. simple (a .counts .vertices) (slice (a .at + 3) t (now (a .bytes)))) (sym (c .before .field-end .ensures)) ∙ sym (c .simple .ensures) ∙ e
+    ap (λ t. areVertices (a .counts .vertices) (slice (a .at + 3) t (now (a .bytes)))) (sym (c .before .field-end .ensures)) ∙ sym (c .are-vertices .ensures) ∙ e
 
 returns : tie.Need-returns
 returns c b so-far w owners-held paths-held =
     let a = c .before .before .before .before .args in
     path-improper (a .counts) (now (a .bytes)) b (a .at) so-far w (now (a .owners)) (now (a .entries)) owners-held paths-held
-    (tested (c .before) _ (not-true (c .before .simple .result) (c .if1 .taken)))
+    (tested (c .before) _ (not-true (c .before .are-vertices .result) (c .if1 .taken)))
 
 returns-2 : tie.Need-returns-2
 returns-2 c b so-far w owners-held paths-held =
     let here = c .before in
     let a = here .before .before .before .before .args in
     path-many (a .counts) (now (a .bytes)) b (a .at) so-far w (now (a .owners)) (now (a .entries)) owners-held paths-held
-    (tested (here .before) _ (not-false (here .before .simple .result) (here .if1 .left)))
+    (tested (here .before) _ (not-false (here .before .are-vertices .result) (here .if1 .left)))
     (c .if2 .taken)
 
 returns-3 : tie.Need-returns-3
@@ -82,7 +82,7 @@ returns-3 c b so-far w owners-held paths-held =
     let pre = here .before .before .before .before .pre in
     let added =
     path-added (a .counts) (now (a .bytes)) b (a .at) so-far w (now (a .owners)) (now (a .entries)) owners-held paths-held
-    (tested (here .before) _ (not-false (here .before .simple .result) (here .if1 .left)))
+    (tested (here .before) _ (not-false (here .before .are-vertices .result) (here .if1 .left)))
     room (pre .1 .1 .0) (pre .0) (pre .1 .0) in (
       added .0,
       added .1,
@@ -97,7 +97,7 @@ path-spec =
     (tie.spec
     field-end-requires
     add-from
-    simple-requires
+    are-vertices-requires
     returns
     returns-2
     sub-n
