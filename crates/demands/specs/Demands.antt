@@ -296,7 +296,7 @@ pub record Order1 : Type 0 where
       → EveryEnd s b (areaAfter (binding s flags area) area) n start table r new
 
 -- ==== Runs that come back to a grade (02, order 2)
--- Two to eight grades below the count: all that the rules ask of a run.
+-- Two to eight grades below the count: all that the rules ask of a run. Said apart from `IsPath`, so that what is proved of it does not follow a test that `IsPath` might get.
 abbrev pub IsRun : ℕ → List ℕ → Type 0
 IsRun count r = (2 ≤ length r) × (length r ≤ longestPath) × All (λ v. v < count) r
 

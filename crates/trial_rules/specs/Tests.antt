@@ -18,7 +18,7 @@ use Rattle.walks.specs.Feasible.{isFeasible, isFeasible→Feasible, Feasible→
 use Rattle.book.specs.Book.{All, IsPath, isPath}
 use Rattle.book.specs.Refusal.{allHold}
 use Rattle.book.specs.RefusalLaws.{hold→all, all→hold}
-use Rattle.book.specs.BookLaws.{isPath→IsPath, IsPath→isPath}
+use Rattle.book.specs.BookLaws.{isPath→IsPath, IsPath→isPath, all-member}
 use Rattle.rules.specs.Binding.{once}
 use Rattle.rules.specs.Sets.{member→Mem, Mem→member}
 use Rattle.limits.specs.Limits.{mostPaths}
@@ -44,11 +44,7 @@ Distinct→once (r ∷ F) d =
 
 -- What binding gives is a forbidden set: at most 256 different paths of the book.
 pub forbidden-set : (count : ℕ) (F : List (List ℕ)) → length F ≤ mostPaths → Distinct F → All (IsPath count) F → ForbiddenSet count F
-forbidden-set count F few distinct are-paths = record { few = few; distinct = distinct; taken = λ r m. true→T _ (IsPath→isPath count r (each are-paths m)) }
-  where
-    each : {G : List (List ℕ)} {r : List ℕ} → All (IsPath count) G → List·Memᴰ r G → IsPath count r
-    each h (List·Memᴰ·head e) = rw e (h .0)
-    each h (List·Memᴰ·tail m) = each (h .1) m
+forbidden-set count F few distinct are-paths = record { few = few; distinct = distinct; taken = λ r m. true→T _ (IsPath→isPath count r (all-member (IsPath count) F are-paths r m)) }
 
 module _ (count : ℕ) (F : List (List ℕ)) where
   pub isForbiddenSet→ : T (isForbiddenSet count F) → ForbiddenSet count F
