@@ -22,7 +22,7 @@ const HEAD: usize = 72;
 // As many bytes as an area may have.
 const MOST_AREA: usize = 4_096;
 
-#[derive(Drop)]
+#[derive(Clone, Copy)]
 pub enum Call {
     Bind,
     Check,

@@ -13,7 +13,7 @@ use field::{field, field_end};
 use limits::{AREA, MOST_PATHS, MOST_SETS, NO_ARC, PAIRS};
 
 // The refusals of 01, 1 to 13 in its order. A book's refusal holds the byte at which the field starts.
-#[derive(Drop)]
+#[derive(Clone, Copy)]
 pub enum Refusal {
     Truncated(usize),
     Tag(usize),
@@ -31,7 +31,7 @@ pub enum Refusal {
 }
 
 // 01's number of a refusal, and the place that it carries, if it has one.
-#[derive(Drop)]
+#[derive(Clone, Copy)]
 pub struct Number {
     pub number: usize,
     pub placed: bool,
@@ -79,7 +79,7 @@ fn bare(number: usize) -> Number
 }
 
 // How many vertices, arcs, rule sets and forbidden paths a book has.
-#[derive(Drop)]
+#[derive(Clone, Copy)]
 pub struct Counts {
     pub vertices: usize,
     pub arcs: usize,
@@ -87,21 +87,21 @@ pub struct Counts {
     pub paths: usize,
 }
 
-#[derive(Drop)]
+#[derive(Clone, Copy)]
 pub enum Answer {
     Read(Counts),
     Refused(Refusal),
 }
 
 // What entering comes to, where nothing is counted.
-#[derive(Drop)]
+#[derive(Clone, Copy)]
 pub enum Verdict {
     Good,
     Refused(Refusal),
 }
 
 // What a field's tag says that it is.
-#[derive(Drop)]
+#[derive(Clone, Copy)]
 pub enum Kind {
     VertexCount,
     Arc,

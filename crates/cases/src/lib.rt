@@ -10,7 +10,7 @@ use lists::wide;
 pub use print::{number, refusal, text, write_walk};
 pub use same::same_answer;
 
-#[derive(Drop)]
+#[derive(Clone, Copy)]
 pub enum Next {
     Case(usize),
     End,

@@ -17,7 +17,7 @@ use limits::{AREA, LONGEST, MOST_VERTICES, PAIRS};
 use trial_record::Record;
 use walk_check::Checked;
 
-#[derive(Drop)]
+#[derive(Clone, Copy)]
 pub enum Judged {
     Standing,
     Refused(Refusal),

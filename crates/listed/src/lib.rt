@@ -14,7 +14,7 @@ use lists::wide;
 use planner::Outcome;
 
 // An item of the list (01: a changeover, with its litres).
-#[derive(Drop)]
+#[derive(Clone, Copy)]
 pub struct Arc {
     pub tail: u8,
     pub head: u8,

@@ -12,7 +12,7 @@ use book::{Answer, Refusal};
 use limits::{AREA, LONGEST, MOST_PATHS, MOST_SETS, NO_ARC, PAIRS};
 use routes::Found;
 
-#[derive(Drop)]
+#[derive(Clone, Copy)]
 pub enum Outcome {
     Walk { weight: u64, hops: usize },
     Nothing,

@@ -12,7 +12,7 @@ use end_search::search_ends;
 use limits::{AREA, MOST_PATHS, MOST_SETS, NO_ARC, PAIRS};
 
 // The table is filled for that many vertices; or the call is refused.
-#[derive(Drop)]
+#[derive(Clone, Copy)]
 pub enum Reached {
     Filled(usize),
     Refused(Refusal),

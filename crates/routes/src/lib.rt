@@ -14,7 +14,7 @@ use limits::{MOST_VERTICES, PAIRS};
 use product::is_open;
 
 // What is found: a walk stands in the area, and has that weight (01: litres) and as many arcs (01: changeovers); or there is none.
-#[derive(Drop)]
+#[derive(Clone, Copy)]
 pub enum Found {
     Walk { weight: u64, hops: usize },
     Nothing,

@@ -11,7 +11,7 @@ use book::{Answer, Refusal};
 use limits::{AREA, MOST_PATHS, MOST_SETS, NO_ARC, PAIRS};
 use lists::copy;
 
-#[derive(Drop)]
+#[derive(Clone, Copy)]
 pub enum Bound {
     Known(usize),
     Refused(Refusal),

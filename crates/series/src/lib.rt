@@ -9,7 +9,7 @@ use trial_record::Record;
 use trials::{Begun, Reported, begin, report_failed, report_passed};
 
 // A report of a list has been made, and ends at that place; or the list is at its end.
-#[derive(Drop)]
+#[derive(Clone, Copy)]
 pub enum Made {
     Report(Reported, usize),
     End,

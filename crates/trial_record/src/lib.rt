@@ -7,7 +7,7 @@ ghost use Rattle.trial_record.specs.Steps.{replanned as Steps·replanned};
 use routes::Found;
 
 // The record of 01. The stage is 0 while a walk (01: line-up) stands, 1 once it has passed, 2 where there is none.
-#[derive(Drop)]
+#[derive(Clone, Copy)]
 pub struct Record {
     pub stage: usize,
     pub start: u8,

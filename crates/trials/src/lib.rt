@@ -8,14 +8,14 @@ pub use report::{report_failed, report_passed};
 use trial_record::Record;
 
 // Begin gives the first record, or is refused.
-#[derive(Drop)]
+#[derive(Clone, Copy)]
 pub enum Begun {
     Record(Record),
     Refused(Refusal),
 }
 
 // A report gives the next record, or is refused and hands the record back as it came.
-#[derive(Drop)]
+#[derive(Clone, Copy)]
 pub enum Reported {
     Accepted(Record),
     Refused(Refusal, Record),

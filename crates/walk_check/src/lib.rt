@@ -9,7 +9,7 @@ use limits::{AREA, MOST_PATHS, MOST_SETS, NO_ARC, PAIRS};
 pub use walk::{first_occurrence, is_walk};
 
 // A walk is clear, or a forbidden path occurs in it: the place of its first vertex, and its length.
-#[derive(Drop)]
+#[derive(Clone, Copy)]
 pub enum Checked {
     Clear,
     Occurs(usize, usize),

@@ -11,113 +11,113 @@ use Rattle.distances.proofs.Lowering.{Lowering, lowering_none, lowering_all, low
 use Rattle.distances.proofs.lower.Statement.{statement}
 use Rattle.distances.proofs.lower.Tie as tie
 
-abbrev invariant-loop : tie.invariant-loop
+abbrev invariant-loop : tie.invariant-loop-i
 invariant-loop tails heads costs first next table₀ h d i₀ table i = Lowering tails heads costs table₀ h i table
 
-abbrev decreases-loop : tie.decreases-loop
+abbrev decreases-loop : tie.decreases-loop-i
 decreases-loop tails heads costs first next table₀ h d i₀ table i = i
 
 -- the tail of the edge that the chain is at is a state of the table
-tail-below : (c : tie.In-loop invariant-loop decreases-loop) →
-    at c.before.before.before.before.args.tails.now (c.before.loop.i - 1) < length c.before.before.before.before.args.table.now
+tail-below : (c : tie.In-loop-i invariant-loop decreases-loop) →
+    at c.before.before.before.before.args.tails.now (c.before.loop-i.i - 1) < length c.before.before.before.before.args.table.now
 tail-below c =
     let s = c.before.before.before.before in
-    let l = c.before.loop in
+    let l = c.before.loop-i in
     (s.requires.0.within (edge_at s.args.tails.now s.args.heads.now s.args.costs.now (l.i - 1))
     (edge-at-mem s.args.tails.now s.args.heads.now s.args.costs.now (l.i - 1) (omega arith) (omega arith) (omega arith))).0
 
 -- the chain goes on before the edge that it is at
-chained : (c : tie.In-loop invariant-loop decreases-loop) →
-    at c.before.before.before.before.args.next.now (c.before.loop.i - 1)
-    ≡ last c.before.before.before.before.args.heads.now (at c.before.before.before.before.args.heads.now (c.before.loop.i - 1)) (c.before.loop.i - 1)
-chained c = let s = c.before.before.before.before in s.requires.1.0.nexts (c.before.loop.i - 1) (omega arith)
+chained : (c : tie.In-loop-i invariant-loop decreases-loop) →
+    at c.before.before.before.before.args.next.now (c.before.loop-i.i - 1)
+    ≡ last c.before.before.before.before.args.heads.now (at c.before.before.before.before.args.heads.now (c.before.loop-i.i - 1)) (c.before.loop-i.i - 1)
+chained c = let s = c.before.before.before.before in s.requires.1.0.nexts (c.before.loop-i.i - 1) (omega arith)
 
-mul-d : tie.Need-overflow-mul-d invariant-loop decreases-loop
+mul-d : tie.Need-offset_bounds-table-h invariant-loop decreases-loop
 mul-d c = omega arith
 
-slice-read-d : tie.Need-slice-read-d invariant-loop decreases-loop
+slice-read-d : tie.Need-bounds-table-h invariant-loop decreases-loop
 slice-read-d c = omega arith
 
-mul-i : tie.Need-overflow-mul-i invariant-loop decreases-loop
+mul-i : tie.Need-offset_bounds-first-h invariant-loop decreases-loop
 mul-i c = omega arith
 
-shared-slice-read-i : tie.Need-shared-slice-read-i invariant-loop decreases-loop
+shared-slice-read-i : tie.Need-bounds-first-h invariant-loop decreases-loop
 shared-slice-read-i c = omega arith
 
-cast-i : tie.Need-overflow-cast-i invariant-loop decreases-loop
-cast-i c = omega (arith, c.shared-slice-known.given c.before.before.args.h)
+cast-i : tie.Need-overflow_cast-i invariant-loop decreases-loop
+cast-i c = omega (arith, c.shared_slice_known-1.given c.before.before.args.h)
 
-loop-holds : tie.Need-loop-init invariant-loop decreases-loop
+loop-holds : tie.Need-loop-i-init invariant-loop decreases-loop
 loop-holds c = let s = c.before.before in rw (s.requires.1.0.firsts s.args.h (omega arith)) (lowering_none _ _ _ _ _)
 
-sub-j : tie.Need-overflow-sub-j invariant-loop decreases-loop
+sub-j : tie.Need-overflow_sub-j invariant-loop decreases-loop
 sub-j c = omega arith
 
-mul-tail : tie.Need-overflow-mul-tail invariant-loop decreases-loop
+mul-tail : tie.Need-offset_bounds-tails-j invariant-loop decreases-loop
 mul-tail c = omega arith
 
-shared-slice-read-tail : tie.Need-shared-slice-read-tail invariant-loop decreases-loop
+shared-slice-read-tail : tie.Need-bounds-tails-j invariant-loop decreases-loop
 shared-slice-read-tail c = omega arith
 
-cast-tail : tie.Need-overflow-cast-tail invariant-loop decreases-loop
-cast-tail c = omega (arith, c.shared-slice-known2.given (c.before.before.loop.i - 1))
+cast-tail : tie.Need-overflow_cast-tail invariant-loop decreases-loop
+cast-tail c = omega (arith, c.shared_slice_known-in-loop-i-1.given (c.before.before.loop-i.i - 1))
 
-mul-reach : tie.Need-overflow-mul-reach invariant-loop decreases-loop
+mul-reach : tie.Need-offset_bounds-costs-j invariant-loop decreases-loop
 mul-reach c = omega arith
 
-shared-slice-read-reach : tie.Need-shared-slice-read-reach invariant-loop decreases-loop
+shared-slice-read-reach : tie.Need-bounds-costs-j invariant-loop decreases-loop
 shared-slice-read-reach c = omega arith
 
-cast-reach : tie.Need-overflow-cast-reach invariant-loop decreases-loop
-cast-reach c = omega (arith, c.shared-slice-known3.given (c.before.before.before.loop.i - 1))
+cast-reach : tie.Need-overflow_cast-reach invariant-loop decreases-loop
+cast-reach c = omega (arith, c.shared_slice_known-in-loop-i-2-1.given (c.before.before.before.loop-i.i - 1))
 
-add-reach : tie.Need-overflow-add-reach invariant-loop decreases-loop
-add-reach c = omega (arith, c.shared-slice-known3.given (c.before.before.before.loop.i - 1), c.before.before.before.before.before.before.requires.0.capped c.before.before.before.before.before.before.args.h)
+add-reach : tie.Need-overflow_add-reach invariant-loop decreases-loop
+add-reach c = omega (arith, c.shared_slice_known-in-loop-i-2-1.given (c.before.before.before.loop-i.i - 1), c.before.before.before.before.before.before.requires.0.capped c.before.before.before.before.before.before.args.h)
 
-mul-if1 : tie.Need-overflow-mul-if1 invariant-loop decreases-loop
+mul-if1 : tie.Need-offset_bounds-table-tail invariant-loop decreases-loop
 mul-if1 c = omega (arith, tail-below c.before.before)
 
-slice-read-if1 : tie.Need-slice-read-if1 invariant-loop decreases-loop
+slice-read-if1 : tie.Need-bounds-table-tail invariant-loop decreases-loop
 slice-read-if1 c = omega (arith, tail-below c.before.before.before)
 
-mul-table : tie.Need-overflow-mul-table invariant-loop decreases-loop
+mul-table : tie.Need-offset_bounds-table-tail-then-reach-table invariant-loop decreases-loop
 mul-table c = omega (arith, tail-below c.before.before.before.before)
 
-slice-write-table : tie.Need-slice-write-table invariant-loop decreases-loop
+slice-write-table : tie.Need-bounds-table-tail-then-reach-table invariant-loop decreases-loop
 slice-write-table c = omega (arith, tail-below c.before.before.before.before)
 
-mul-i-2 : tie.Need-overflow-mul-i-2 invariant-loop decreases-loop
+mul-i-2 : tie.Need-offset_bounds-next-j invariant-loop decreases-loop
 mul-i-2 c = omega arith
 
-shared-slice-read-i-2 : tie.Need-shared-slice-read-i-2 invariant-loop decreases-loop
+shared-slice-read-i-2 : tie.Need-bounds-next-j invariant-loop decreases-loop
 shared-slice-read-i-2 c = omega arith
 
-cast-i-2 : tie.Need-overflow-cast-i-2 invariant-loop decreases-loop
-cast-i-2 c = omega (arith, c.shared-slice-known4.given (c.before.before.before.before.before.before.loop.i - 1))
+cast-i-2 : tie.Need-overflow_cast-i-in-loop-i invariant-loop decreases-loop
+cast-i-2 c = omega (arith, c.shared_slice_known-in-loop-i-3-1.given (c.before.before.before.before.before.before.loop-i.i - 1))
 
-loop-less : tie.Need-loop-smaller invariant-loop decreases-loop
+loop-less : tie.Need-loop-i-smaller invariant-loop decreases-loop
 loop-less c =
     let a = c.before.before.before.before.before.before.before.before.before.args in
-    let j = c.before.before.before.before.before.before.loop.i - 1 in
+    let j = c.before.before.before.before.before.before.loop-i.i - 1 in
     omega (arith, chained c.before.before.before.before.before, last_le a.heads.now (at a.heads.now j) j)
 
-loop-again : tie.Need-loop-preserved invariant-loop decreases-loop
+loop-again : tie.Need-loop-i-preserved invariant-loop decreases-loop
 loop-again c =
     let s = c.before.before.before.before.before.before.before.before.before in
-    let l = c.before.before.before.before.before.before.loop in
+    let l = c.before.before.before.before.before.before.loop-i in
     let i : l.i ≡ suc (l.i - 1) = omega arith in
     let here = subst (λ k. Lowering s.args.tails.now s.args.heads.now s.args.costs.now s.args.table.now s.args.h k l.table) i l.invariant in
     rw (chained c.before.before.before.before.before) (⊎_elim (λ w. rw w.1 (lowering_lower _ _ _ _ _ s.requires.0 (l.i - 1) here w.0.taken))
-    (λ w. rw w.1 (lowering_keep _ _ _ _ _ s.requires.0 (l.i - 1) here w.0.left)) c.before.if1.branch)
+    (λ w. rw w.1 (lowering_keep _ _ _ _ _ s.requires.0 (l.i - 1) here w.0.left)) c.before.if-reach-table.branch)
 
-same_length : tie.Need-same-length invariant-loop decreases-loop
+same_length : tie.Need-shape_of-table invariant-loop decreases-loop
 same_length c = omega arith
 
 returns : tie.Need-returns invariant-loop decreases-loop
 returns c =
     let s = c.before.before.before.before in
-    let l = c.before.loop in
-    lowering_all _ _ _ _ _ (rw c.loop-test.false at l.invariant)
+    let l = c.before.loop-i in
+    lowering_all _ _ _ _ _ (rw c.loop-i-test.false at l.invariant)
 
 pub lower_spec : {M : Type 1} → statement M
 lower_spec =

@@ -12,100 +12,100 @@ use Rattle.distances.proofs.Turn.{Turn, turn-none, turn-all, turn_lower, turn_ke
 use Rattle.distances.proofs.pass.Statement.{statement}
 use Rattle.distances.proofs.pass.Tie as tie
 
-abbrev invariant-loop : tie.invariant-loop
+abbrev invariant-loop : tie.invariant-loop-i
 invariant-loop tails heads costs old new₀ changed₀ i₀ new changed i =
     (i ≤ length tails) × (length new ≡ length old) × Turn (edges tails heads costs) old (drop i (edges tails heads costs)) new changed
 
-abbrev decreases-loop : tie.decreases-loop
+abbrev decreases-loop : tie.decreases-loop-i
 decreases-loop tails heads costs old new₀ changed₀ i₀ new changed i = length tails - i
 
 -- the edge of a turn joins states of the table
-joins : (c : tie.In-loop invariant-loop decreases-loop) →
-    (get_or c.before.before.args.tails.now c.before.loop.i 0 < length c.before.before.args.old.now)
-    × (get_or c.before.before.args.heads.now c.before.loop.i 0 < length c.before.before.args.old.now)
+joins : (c : tie.In-loop-i invariant-loop decreases-loop) →
+    (get_or c.before.before.args.tails.now c.before.loop-i.i 0 < length c.before.before.args.old.now)
+    × (get_or c.before.before.args.heads.now c.before.loop-i.i 0 < length c.before.before.args.old.now)
 joins c =
     let a = c.before.before.args in
-    c.before.before.requires.0.within (edge_at a.tails.now a.heads.now a.costs.now c.before.loop.i)
-    (edge-at-mem a.tails.now a.heads.now a.costs.now c.before.loop.i (omega arith) (omega arith) (omega arith))
+    c.before.before.requires.0.within (edge_at a.tails.now a.heads.now a.costs.now c.before.loop-i.i)
+    (edge-at-mem a.tails.now a.heads.now a.costs.now c.before.loop-i.i (omega arith) (omega arith) (omega arith))
 
-loop-holds : tie.Need-loop-init invariant-loop decreases-loop
+loop-holds : tie.Need-loop-i-init invariant-loop decreases-loop
 loop-holds c = (omega arith, ap length c.requires.1, turn-none _ _ _ c.requires.1)
 
-mul-tail : tie.Need-overflow-mul-tail invariant-loop decreases-loop
+mul-tail : tie.Need-offset_bounds-tails-i invariant-loop decreases-loop
 mul-tail c = omega arith
 
-shared-slice-read-tail : tie.Need-shared-slice-read-tail invariant-loop decreases-loop
+shared-slice-read-tail : tie.Need-bounds-tails-i invariant-loop decreases-loop
 shared-slice-read-tail c = omega arith
 
-cast-tail : tie.Need-overflow-cast-tail invariant-loop decreases-loop
-cast-tail c = omega (arith, c.shared-slice-known.given c.before.before.loop.i)
+cast-tail : tie.Need-overflow_cast-tail invariant-loop decreases-loop
+cast-tail c = omega (arith, c.shared_slice_known-1.given c.before.before.loop-i.i)
 
-mul-head : tie.Need-overflow-mul-head invariant-loop decreases-loop
+mul-head : tie.Need-offset_bounds-heads-i invariant-loop decreases-loop
 mul-head c = omega arith
 
-shared-slice-read-head : tie.Need-shared-slice-read-head invariant-loop decreases-loop
+shared-slice-read-head : tie.Need-bounds-heads-i invariant-loop decreases-loop
 shared-slice-read-head c = omega arith
 
-cast-head : tie.Need-overflow-cast-head invariant-loop decreases-loop
-cast-head c = omega (arith, c.shared-slice-known2.given c.before.before.before.loop.i)
+cast-head : tie.Need-overflow_cast-head invariant-loop decreases-loop
+cast-head c = omega (arith, c.shared_slice_known-in-loop-i-1.given c.before.before.before.loop-i.i)
 
-mul-reach : tie.Need-overflow-mul-reach invariant-loop decreases-loop
+mul-reach : tie.Need-offset_bounds-old-head invariant-loop decreases-loop
 mul-reach c = omega (arith, joins c.before.before)
 
-shared-slice-read-reach : tie.Need-shared-slice-read-reach invariant-loop decreases-loop
+shared-slice-read-reach : tie.Need-bounds-old-head invariant-loop decreases-loop
 shared-slice-read-reach c = (joins c.before.before.before).1
 
-mul-reach-2 : tie.Need-overflow-mul-reach-2 invariant-loop decreases-loop
+mul-reach-2 : tie.Need-offset_bounds-costs-i invariant-loop decreases-loop
 mul-reach-2 c = omega arith
 
-shared-slice-read-reach-2 : tie.Need-shared-slice-read-reach-2 invariant-loop decreases-loop
+shared-slice-read-reach-2 : tie.Need-bounds-costs-i invariant-loop decreases-loop
 shared-slice-read-reach-2 c = omega arith
 
-cast-reach : tie.Need-overflow-cast-reach invariant-loop decreases-loop
-cast-reach c = omega (arith, c.shared-slice-known4.given c.before.before.before.before.before.loop.i)
+cast-reach : tie.Need-overflow_cast-reach invariant-loop decreases-loop
+cast-reach c = omega (arith, c.shared_slice_known-in-loop-i-3-1.given c.before.before.before.before.before.loop-i.i)
 
-add-reach : tie.Need-overflow-add-reach invariant-loop decreases-loop
+add-reach : tie.Need-overflow_add-reach invariant-loop decreases-loop
 add-reach c =
     let l = c.before.before.before.before.before in
-    omega (arith, c.shared-slice-known4.given l.loop.i, l.before.requires.0.capped (get_or l.before.args.heads.now l.loop.i 0))
+    omega (arith, c.shared_slice_known-in-loop-i-3-1.given l.loop-i.i, l.before.requires.0.capped (get_or l.before.args.heads.now l.loop-i.i 0))
 
-mul-if1 : tie.Need-overflow-mul-if1 invariant-loop decreases-loop
+mul-if1 : tie.Need-offset_bounds-new-tail invariant-loop decreases-loop
 mul-if1 c = omega (arith, joins c.before.before.before.before)
 
-slice-read-if1 : tie.Need-slice-read-if1 invariant-loop decreases-loop
+slice-read-if1 : tie.Need-bounds-new-tail invariant-loop decreases-loop
 slice-read-if1 c = omega (arith, joins c.before.before.before.before.before)
 
-mul-new : tie.Need-overflow-mul-new invariant-loop decreases-loop
+mul-new : tie.Need-offset_bounds-new-tail-then-reach-new invariant-loop decreases-loop
 mul-new c = omega (arith, joins c.before.before.before.before.before.before)
 
-slice-write-new : tie.Need-slice-write-new invariant-loop decreases-loop
+slice-write-new : tie.Need-bounds-new-tail-then-reach-new invariant-loop decreases-loop
 slice-write-new c = omega (arith, joins c.before.before.before.before.before.before)
 
-add-i : tie.Need-overflow-add-i invariant-loop decreases-loop
+add-i : tie.Need-overflow_add-i invariant-loop decreases-loop
 add-i c = omega arith
 
-loop-less : tie.Need-loop-smaller invariant-loop decreases-loop
+loop-less : tie.Need-loop-i-smaller invariant-loop decreases-loop
 loop-less c = omega arith
 
-loop-again : tie.Need-loop-preserved invariant-loop decreases-loop
+loop-again : tie.Need-loop-i-preserved invariant-loop decreases-loop
 loop-again c =
     let l = c.before.before.before.before.before.before.before in
     let a = l.before.args in
     let es = edges a.tails.now a.heads.now a.costs.now in
-    let t : Turn es a.old.now (edge_at a.tails.now a.heads.now a.costs.now l.loop.i ∷ drop (l.loop.i + 1) es) l.loop.new l.loop.changed =
-    rw (add-one, ← drop-edges a.tails.now a.heads.now a.costs.now l.loop.i (omega arith) (omega arith) (omega arith)) l.loop.invariant.2 in
-    ⊎_elim (λ w. (omega arith, rw w.1 (simp length-set (omega arith)), rw (w.1, w.2) (turn_lower es a.old.now _ _ l.loop.new l.loop.changed w.0.taken t)))
-    (λ w. (omega arith, omega (arith, ap length w.1), rw (w.1, w.2) (turn_keep es a.old.now _ _ l.loop.new l.loop.changed w.0.left t)))
-    c.if1.branch
+    let t : Turn es a.old.now (edge_at a.tails.now a.heads.now a.costs.now l.loop-i.i ∷ drop (l.loop-i.i + 1) es) l.loop-i.new l.loop-i.changed =
+    rw (add-one, ← drop-edges a.tails.now a.heads.now a.costs.now l.loop-i.i (omega arith) (omega arith) (omega arith)) l.loop-i.invariant.2 in
+    ⊎_elim (λ w. (omega arith, rw w.1 (simp length-set (omega arith)), rw (w.1, w.2) (turn_lower es a.old.now _ _ l.loop-i.new l.loop-i.changed w.0.taken t)))
+    (λ w. (omega arith, omega (arith, ap length w.1), rw (w.1, w.2) (turn_keep es a.old.now _ _ l.loop-i.new l.loop-i.changed w.0.left t)))
+    c.if-reach-new.branch
 
-same_length : tie.Need-same-length invariant-loop decreases-loop
+same_length : tie.Need-shape_of-new invariant-loop decreases-loop
 same_length c = omega (arith, ap length c.before.before.requires.1)
 
 returns : tie.Need-returns invariant-loop decreases-loop
 returns c =
     let l = c.before in
     let a = l.before.args in
-    turn-all _ _ _ _ (rw (drop_of_length-le (edges a.tails.now a.heads.now a.costs.now) {i = l.loop.i} (omega (arith, length-edges_le a.tails.now a.heads.now a.costs.now))) at l.loop.invariant.2)
+    turn-all _ _ _ _ (rw (drop_of_length-le (edges a.tails.now a.heads.now a.costs.now) {i = l.loop-i.i} (omega (arith, length-edges_le a.tails.now a.heads.now a.costs.now))) at l.loop-i.invariant.2)
 
 pub pass_spec : {M : Type 1} → statement M
 pass_spec =

@@ -10,59 +10,59 @@ use Rattle.distances.proofs.Rounding.{Rounding, rounding_none, rounding_take, ro
 use Rattle.distances.proofs.round.Statement.{statement}
 use Rattle.distances.proofs.round.Tie as tie
 
-abbrev invariant-loop : tie.invariant-loop
+abbrev invariant-loop : tie.invariant-loop-h
 invariant-loop tails heads costs first next table₀ seen₀ taken₀ h₀ table seen taken h =
     (h ≤ length table₀) × Rounding (edges tails heads costs) table₀ seen₀ h table seen taken
 
-abbrev decreases-loop : tie.decreases-loop
+abbrev decreases-loop : tie.decreases-loop-h
 decreases-loop tails heads costs first next table₀ seen₀ taken₀ h₀ table seen taken h = length table₀ - h
 
-loop-holds : tie.Need-loop-init invariant-loop decreases-loop
+loop-holds : tie.Need-loop-h-init invariant-loop decreases-loop
 loop-holds c = (omega arith, rounding_none _ _ _ c.before.before.before.before.before.before.before.requires.1.1.1)
 
-mul-d : tie.Need-overflow-mul-d invariant-loop decreases-loop
+mul-d : tie.Need-offset_bounds-table-h invariant-loop decreases-loop
 mul-d c = omega arith
 
-slice-read-d : tie.Need-slice-read-d invariant-loop decreases-loop
+slice-read-d : tie.Need-bounds-table-h invariant-loop decreases-loop
 slice-read-d c = omega arith
 
-mul-if1 : tie.Need-overflow-mul-if1 invariant-loop decreases-loop
+mul-if1 : tie.Need-offset_bounds-seen-h invariant-loop decreases-loop
 mul-if1 c = omega arith
 
-slice-read-if1 : tie.Need-slice-read-if1 invariant-loop decreases-loop
+slice-read-if1 : tie.Need-bounds-seen-h invariant-loop decreases-loop
 slice-read-if1 c = omega arith
 
-mul-seen : tie.Need-overflow-mul-seen invariant-loop decreases-loop
+mul-seen : tie.Need-offset_bounds-seen-h-then-d-seen invariant-loop decreases-loop
 mul-seen c = omega arith
 
-slice-write-seen : tie.Need-slice-write-seen invariant-loop decreases-loop
+slice-write-seen : tie.Need-bounds-seen-h-then-d-seen invariant-loop decreases-loop
 slice-write-seen c = omega arith
 
 lower-requires : tie.Need-lower-requires invariant-loop decreases-loop
 lower-requires c κs =
     let s = c.before.before.before.before.before.before.before.before.before.before.before.before.before in
-    let r = c.before.before.before.before.before.loop.invariant.1 in
+    let r = c.before.before.before.before.before.loop-h.invariant.1 in
     (ready_lower s.requires.0 r.same_length r.not-raised, (s.requires.1.0, (s.requires.1.1.0 ∙ sym r.same_length, omega arith)))
 
-add-h : tie.Need-overflow-add-h invariant-loop decreases-loop
+add-h : tie.Need-overflow_add-h invariant-loop decreases-loop
 add-h c = omega arith
 
-loop-less : tie.Need-loop-smaller invariant-loop decreases-loop
+loop-less : tie.Need-loop-h-smaller invariant-loop decreases-loop
 loop-less c = omega arith
 
-loop-again : tie.Need-loop-preserved invariant-loop decreases-loop
+loop-again : tie.Need-loop-h-preserved invariant-loop decreases-loop
 loop-again c =
-    let l = c.before.before.before.before.loop in
-    ⊎_elim (λ w. (omega arith, rw (w.5, w.6, w.7) (rounding_take _ _ _ l.invariant.1 w.0.taken w.2.ensures))) (λ w. (omega arith, rw (w.1, w.2, w.3) (rounding_skip _ _ _ l.invariant.1 w.0.left))) c.if1.branch
+    let l = c.before.before.before.before.loop-h in
+    ⊎_elim (λ w. (omega arith, rw (w.5, w.6, w.7) (rounding_take _ _ _ l.invariant.1 w.0.taken w.2.ensures))) (λ w. (omega arith, rw (w.1, w.2, w.3) (rounding_skip _ _ _ l.invariant.1 w.0.left))) c.if-d-seen.branch
 
-same_length : tie.Need-same-length invariant-loop decreases-loop
+same_length : tie.Need-shape_of-table invariant-loop decreases-loop
 same_length c = omega arith
 
-same-length-2 : tie.Need-same-length-2 invariant-loop decreases-loop
+same-length-2 : tie.Need-shape_of-seen invariant-loop decreases-loop
 same-length-2 c = omega arith
 
 returns : tie.Need-returns invariant-loop decreases-loop
-returns c = rounding_all _ _ _ c.before.loop.invariant.1 c.loop-test.false
+returns c = rounding_all _ _ _ c.before.loop-h.invariant.1 c.loop-h-test.false
 
 pub round-spec : {M : Type 1} → statement M
 round-spec =

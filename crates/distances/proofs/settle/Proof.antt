@@ -27,23 +27,23 @@ round-requires c κs =
 -- a round goes on from the first table
 after : (c : tie.After-round invariant-loop decreases-loop) →
     let a = c.before.before.before.before.before.before.before.before.before.before.before.args in
-    Progress (edges a.tails.now a.heads.now a.costs.now) a.table.now c.round.new.1.1.1.1.1.0 c.round.new.1.1.1.1.1.1.0
+    Progress (edges a.tails.now a.heads.now a.costs.now) a.table-1.now c.round.new.1.1.1.1.1.0 c.round.new.1.1.1.1.1.1.0
 after c = c.round.ensures.progress _ c.before.before.before.loop.invariant
 
 loop-less : tie.Need-loop-smaller invariant-loop decreases-loop
-loop-less c = c.before.before.before.before.before.round.ensures.falls c.if1.true
+loop-less c = c.before.before.before.before.before.round.ensures.falls c.loop-test.true
 
 loop-again : tie.Need-loop-preserved invariant-loop decreases-loop
 loop-again c = after c.before.before.before.before.before
 
-same_length : tie.Need-same-length invariant-loop decreases-loop
+same_length : tie.Need-shape_of-table invariant-loop decreases-loop
 same_length c = (after c.before.before.before.before.before).same_length
 
-same-length-2 : tie.Need-same-length-2 invariant-loop decreases-loop
+same-length-2 : tie.Need-shape_of-seen invariant-loop decreases-loop
 same-length-2 c = (after c.before.before.before.before.before).seen_length ∙ sym c.before.before.before.before.before.before.before.before.before.before.before.before.before.before.before.before.requires.1.1.1.0
 
 returns : tie.Need-returns invariant-loop decreases-loop
-returns c = progress-done _ _ _ _ c.before.before.before.before.before.before.before.before.before.before.before.before.before.before.before.before.requires.0.within (after c.before.before.before.before.before) (c.before.before.before.before.before.round.ensures.none_left c.if1.false)
+returns c = progress-done _ _ _ _ c.before.before.before.before.before.before.before.before.before.before.before.before.before.before.before.before.requires.0.within (after c.before.before.before.before.before) (c.before.before.before.before.before.round.ensures.none_left c.loop-test.false)
 
 pub settle-spec : {M : Type 1} → statement M
 settle-spec =

@@ -1,0 +1,2 @@
+-- Meaning: the limits.
+pub mod Limits

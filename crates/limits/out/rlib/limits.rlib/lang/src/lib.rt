@@ -1,0 +1,10 @@
+# [ read_as = "0ed584c75a3cd1df988dcc4d430e152ea117b0bf69d6279ce293e8f97fb9f282" ] pub const MOST_VERTICES : usize = 64 ;
+# [ read_as = "8f6b75b1c48eb0e05b4217439627001064127dff63b8fbed353631c90c5e0c09" ] pub const PAIRS : usize = 4096 ;
+# [ read_as = "643256abbae90c87bd6a662917da58404daac50d766183fa859d7e4309a05323" ] pub const HEAVIEST : usize = 1_000_000 ;
+# [ read_as = "f046cae2ecee86ac83da2da2e4358ba6f787d9f31a2c63c2a21b51a9d72c3b07" ] pub const MOST_SETS : usize = 16 ;
+# [ read_as = "4edb2ec6606374b0bdbbddb82dbc6db78c550409e6e55805a0cc6a68bf97a903" ] pub const MOST_PATHS : usize = 256 ;
+# [ read_as = "210289deaf01ee6ce85d57d177afaebc8e5d9b681997fa13bdb20bee3b7d0d69" ] pub const LONGEST_PATH : usize = 8 ;
+# [ read_as = "1793f561e4a72806fc42dfa6f4f77ac910849ae2ed45eb1b5632abb6e5db8326" ] pub const ENTRY : usize = 9 ;
+# [ read_as = "a6d3ba2ed2bd581dad7313dc04a7f2f91e9e1f9eb74703ba5e9c2e5168eb7c5d" ] pub const AREA : usize = 2304 ;
+# [ read_as = "01ecb1dcaf40a990accfc57ae955c0f5738a501914b397774bd1da16c888a9f0" ] pub const LONGEST : usize = 1600 ;
+# [ read_as = "a95e8569d323a42a22e4c16e7ed89eac5d4fa9aeb41e4c8dd306f7302bfc4c94" ] pub const NO_ARC : u32 = 0xffff_ffff ;
