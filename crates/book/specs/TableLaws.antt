@@ -43,7 +43,7 @@ found P (a ∷ xs) u v x h e = go (eqb a.tail u && eqb a.head v) refl e (found P
 pub entered-arc : (t : List ℕ) (xs : List Arc) (a : Arc) → entered t (xs ++ (a ∷ [])) ≡ set (entered t xs) (a.tail * most_vertices + a.head) a.weight
 unfolding entered
 entered-arc t [] a = refl
-entered-arc t (x ∷ xs) a = entered-arc _ xs a
+entered-arc t (x ∷ xs) a = entered-arc (set t (x.tail * most_vertices + x.head) x.weight) xs a
 
 nothing : (o : Option ℕ) → is_some o ≡ false → o ≡ none
 nothing none e = refl

@@ -1,7 +1,7 @@
 -- Demand 1, proved: when an operation answers with a refusal, and that a refusal leaves every lent byte and the record.
 use Rattle.std.specs.Prelude.{ℕ, zero, suc, ◌-◌, ◌≡◌, refl, List, ◌↔◌, length}
 use Rattle.std.proofs.Common.{ap, ◌∙◌, inl, inr}
-use Rattle.std.proofs.Math.Logic.{Iff·trans}
+use Rattle.std.proofs.Math.Logic.Iff
 use Rattle.std.proofs.Math.Option.{Option, none, some, none-ne-some}
 use Rattle.walks.specs.Graph.{Graph}
 use Rattle.walks.specs.Walk.{Walk}
@@ -42,7 +42,7 @@ record Tells (o : Option Refusal) (x : Refusal) (answer kept : Type 0) : Type 0 
 
 exactly : {r : Reading} {tests : Book → List Test} {conditions : Book → List Condition} {x : Refusal} {answer : Type 0}
     → Judges r tests conditions → answer ↔ (refusal_of r tests ≡ some x) → Exactly r tests conditions x answer
-exactly {x = x} j d = record { defined = d; cause = Iff·trans d (j.refuses x) }
+exactly {x = x} j d = record { defined = d; cause = Iff.trans d (j.refuses x) }
 
 read-iff : (r : Reading) (x : Refusal) → (read_as r ≡ Answer.Refused x) ↔ (r ≡ refused x)
 read-iff (accepted b) x = (λ e. zero_one (cc), λ e. zero_one (cc))

@@ -1,6 +1,6 @@
 -- What `link` has done when the first i edges are chained, and what one turn of its loop does.
 use Prim.Native.Nat.{ℕ, suc, ◌+◌, ◌<◌}
-use mathlib.Core.Path.{◌≡◌, refl, sym, ◌∙◌}
+use mathlib.Core.Path.{◌≡◌, refl, sym, subst, ◌∙◌}
 use mathlib.Core.List.{List}
 use mathlib.Core.Logic.{by_cases}
 use native.Mathlib.Numerals.{add-one}
@@ -23,7 +23,7 @@ linking_next {heads} {i} {first} {next} more below l = record {
   firsts = λ h in-first.
       let less : h < length first = rw (length-set first (at heads i) (i + 1)) at in-first in
       rw add-one (by_cases (ℕ_discrete h (at heads i))
-      (λ e. rw e (get_or-set_same first (at heads i) (suc i) 0 below ∙ sym (last-same heads (at heads i) i refl)))
+      (λ e. subst (λ (z : ℕ). at (set first (at heads i) (suc i)) z ≡ last heads z (suc i)) (sym e) (get_or-set_same first (at heads i) (suc i) 0 below ∙ sym (last-same heads (at heads i) i refl)))
       (λ d. get_or-set_other first (at heads i) h (suc i) 0 d ∙ l.firsts h less ∙ sym (last-other heads h i (λ e. d (sym e)))));
   nexts = λ j less. by_cases (ℕ_discrete j i)
       (λ e. rw e (get_or-set_same next i _ 0 (omega (arith, l.next-length)) ∙ l.firsts (at heads i) below))

@@ -31,8 +31,8 @@ relaxes_le old [] new q = omega arith
 relaxes_le old (e ∷ es) new q = omega (arith, relaxes_le old es (relax old e new) q, relax_le old e new q)
 
 -- after every edge was relaxed, none is left to lower an entry
-relaxes-edge : (old : List ℕ) {es : List Edge} (new : List ℕ) {e : Edge} → e ∈ es → at (relaxes old es new) e.tail ≤ at old e.head + e.cost
-relaxes-edge old new {e} (Memᴰ.head {x} {xs} h) =
+relaxes-edge : (old : List ℕ) {e : Edge} {es : List Edge} (new : List ℕ) → e ∈ es → at (relaxes old es new) e.tail ≤ at old e.head + e.cost
+relaxes-edge old {e} new (Memᴰ.head {x} {xs} h) =
     rw h (omega (arith, relaxes_le old xs (relax old x new) x.tail, relax-tail old x new))
 relaxes-edge old new (Memᴰ.tail {x} m) = relaxes-edge old (relax old x new) m
 

@@ -21,7 +21,7 @@ pub settled_cons : (e : Edge) (es : List Edge) (t : List ℕ) → T (settled (e 
 settled_cons e es t h = let both = T_and (leb (at t e.tail) (at t e.head + e.cost)) (settled es t) h in (leb→le _ _ both.0, both.1)
 
 -- a settled table is one that no edge lowers
-pub settled-edge : {es : List Edge} (t : List ℕ) → T (settled es t) → {e : Edge} → e ∈ es → at t e.tail ≤ at t e.head + e.cost
+pub settled-edge : {e : Edge} {es : List Edge} (t : List ℕ) → T (settled es t) → e ∈ es → at t e.tail ≤ at t e.head + e.cost
 settled-edge t h (Memᴰ.head {x} {xs} i) = rw i (settled_cons x xs t h).0
 settled-edge t h (Memᴰ.tail {x} {xs} m) = settled-edge t (settled_cons x xs t h).1 m
 

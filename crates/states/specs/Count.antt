@@ -50,6 +50,7 @@ length-prefixes m (r ∷ F) h =
     by_cases (ℕ_discrete j (suc (suc k))) (λ e. Memᴰ.head (ap (λ (x : ℕ). reverse (take x r)) e)) (λ (d : ¬ (j ≡ suc (suc k))). Memᴰ.tail (∈fronts r k j a (omega arith)))
 
 ∈prefixes : {r : List ℕ} (F : List (List ℕ)) {q : List ℕ} → Memᴰ r F → Memᴰ q (fronts r (length r - 2)) → Memᴰ q (prefixes F)
+∈prefixes {r = r} [] {q = q} m i = elim m [ ]
 ∈prefixes (r ∷ F) (Memᴰ.head e) i = Memᴰ.append_left (prefixes F) (rw e at i)
 ∈prefixes (r ∷ F) (Memᴰ.tail m) i = Memᴰ.append_right (fronts r (length r - 2)) (∈prefixes F m i)
 

@@ -10,67 +10,59 @@ use Rattle.text.specs.Writing.{WroteSome}
 use Rattle.answer.proofs.answer_book.Statement.{statement}
 use Rattle.answer.proofs.answer_book.Tie as tie
 
-load-requires : tie.Need-load-requires
+load-requires : tie.Need-load-read-requires
 load-requires c κs = search rules
 
-enum-known-read : tie.Need-enum-known-read
+enum-known-read : tie.Need-enum_known-read
 enum-known-read c = search rules
 
-refusal-text-requires : tie.Need-refusal-text-requires
+refusal-text-requires : tie.Need-refusal_text-requires
 refusal-text-requires c κs = search rules
 
-enum-known-read-2 : tie.Need-enum-known-read-2
+enum-known-read-2 : tie.Need-enum_known-read-in-Read-1
 enum-known-read-2 c = search rules
 
 -- the book that was read
-book : (c : tie.After-read2)
-    → let load = c.before.before in
-    Loaded load.before.before.before.before.before.before.before.args.bytes.now c.read2.given.0.0
-    load.load.new.1.0 load.load.new.1.1.0 load.load.new.1.1.1.0 load.load.new.1.1.1.1.0
+book : (c : tie.In-Read-2)
+    → Loaded c.args.bytes.now c.in-Read.counts
+    c.load-read.new.1.0 c.load-read.new.1.1.0 c.load-read.new.1.1.1.0 c.load-read.new.1.1.1.1.0
 book c =
-    let load = c.before.before in
-    loaded load.before.before.before.before.before.before.before.args.bytes.now load.load.result c.read2.given.0.0 _ _ _ _
-    load.load.ensures.0 load.load.ensures.1 c.read2.given.1
+    loaded c.args.bytes.now c.load-read.result c.in-Read.counts _ _ _ _
+    c.load-read.ensures.0 c.load-read.ensures.1 c.in-Read.is
 
-slice-aggregate-answer-loaded : tie.Need-slice-aggregate-answer-loaded
+slice-aggregate-answer-loaded : tie.Need-slice_bounds-answer_loaded-end
 slice-aggregate-answer-loaded c = sym (sets-entries (book c.before.before.before.before.before).tables.sets)
 
-answer-loaded-requires : tie.Need-answer-loaded-requires
+answer-loaded-requires : tie.Need-answer_loaded-requires
 answer-loaded-requires c κs =
-    let read = c.before.before.before.before.before.before in
-    let b = book read in
-    ((b.book, b.tables), read.before.before.before.before.before.before.before.before.before.requires)
+    let b = book c.before.before.before.before.before.before in
+    ((b.book, b.tables), c.requires)
 
-same_length : tie.Need-same-length
+same_length : tie.Need-shape_of-out-in-Refused
 same_length c = search rules
 
-returns : tie.Need-returns
+returns : tie.Need-returns-in-Refused
 returns c =
-    let call = c.before.before in
-    let read = call.before.before.before in
-    let load = read.before.before in
-    let a = load.before.before.before.before.before.before.before.args in
-    let is = answer-refused (reading a.bytes.now) _ (sym load.load.ensures.0 ∙ read.read.given.1) in
+    let a = c.args in
+    let is = answer-refused (reading a.bytes.now) _ (sym c.load-read.ensures.0 ∙ c.in-Refused.is) in
     record {
-      text = refusal_text read.read.given.0.0;
-      is = subst (λ x. AnsweredOf x a.flags a.start a.end (refusal_text read.read.given.0.0)) (sym is) refl;
-      wrote = call.refusal-text.ensures;
+      text = refusal_text c.in-Refused.r;
+      is = subst (λ x. AnsweredOf x a.flags a.start a.end (refusal_text c.in-Refused.r)) (sym is) refl;
+      wrote = c.refusal_text.ensures;
     }
 
-same-length-2 : tie.Need-same-length-2
+same-length-2 : tie.Need-shape_of-out-in-Read
 same-length-2 c = search rules
 
-returns-2 : tie.Need-returns-2
+returns-2 : tie.Need-returns-in-Read
 returns-2 c =
-    let call = c.before.before in
-    let read = call.before.before.before.before.before.before.before in
-    let a = read.before.before.before.before.before.before.before.before.before.args in
-    let b = book read in
-    subst (λ x. WroteSome (AnsweredOf x a.flags a.start a.end) a.out.now call.answer-loaded.result call.answer-loaded.new.1.1.1.1.1.1.1.1.0)
-    (sym b.is) (call.answer-loaded.ensures b.book b.tables)
+    let a = c.args in
+    let b = book c.before.before.before.before.before.before.before.before.before in
+    subst (λ x. WroteSome (AnsweredOf x a.flags a.start a.end) a.out.now c.answer_loaded.result c.answer_loaded.new.1.1.1.1.1.1.1.1.0)
+    (sym b.is) (c.answer_loaded.ensures b.book b.tables)
 
-pub answer-book-spec : {M : Type 1} → statement M
-answer-book-spec =
+pub answer_book_spec : {M : Type 1} → statement M
+answer_book_spec =
     tie.close
     (tie.spec
     load-requires

@@ -13,76 +13,70 @@ use Rattle.text.proofs.Parts.{part_rest}
 use Rattle.answer.proofs.answer_in.Statement.{statement}
 use Rattle.answer.proofs.answer_in.Tie as tie
 
-refusal-text-requires : tie.Need-refusal-text-requires
+refusal-text-requires : tie.Need-refusal_text-requires
 refusal-text-requires c κs = search rules
 
-same_length : tie.Need-same-length
+same_length : tie.Need-shape_of-out-then-input-lt4
 same_length c = search rules
 
-returns : tie.Need-returns
+returns : tie.Need-returns-then-input-lt4
 returns c =
-    let call = c.before.before in
-    let short = call.before.before in
-    let start = short.before.before.before in
-    let s = start.args.input.now in
-    let front = wrote-front call.refusal-text.ensures in
+    let s = c.args.input.now in
+    let front = wrote-front c.refusal_text.ensures in
     record {
       text = refusal_text (Truncated 0);
-      answered = subst (λ x. AnsweredBy x s (refusal_text (Truncated 0))) (sym (lt-leb 4 (length s) short.if1.true)) refl;
+      answered = subst (λ x. AnsweredBy x s (refusal_text (Truncated 0))) (sym (lt-leb 4 (length s) c.if-input-lt4.true)) refl;
       length-is = front.0;
       bytes_are = front.1;
     }
 
-shared-slice-read-u16-from : tie.Need-shared-slice-read-u16-from
+shared-slice-read-u16-from : tie.Need-bounds-input-0
 shared-slice-read-u16-from c = search rules
 
-shared-slice-read-u16-from-2 : tie.Need-shared-slice-read-u16-from-2
+shared-slice-read-u16-from-2 : tie.Need-bounds-input-1
 shared-slice-read-u16-from-2 c = search rules
 
-u16-from-requires : tie.Need-u16-from-requires
+u16-from-requires : tie.Need-u16_from-flags-requires
 u16-from-requires c κs = search rules
 
-sub-answer-book : tie.Need-overflow-sub-answer-book
+sub-answer-book : tie.Need-slice_bounds-answer_book-count
 sub-answer-book c = search rules
 
-part-answer-book-start : tie.Need-slice-bounds-answer-book-start
+part-answer-book-start : tie.Need-slice_bounds-answer_book-start
 part-answer-book-start c = search rules
 
-part-answer-book-end : tie.Need-slice-bounds-answer-book-end
+part-answer-book-end : tie.Need-slice_bounds-answer_book-end
 part-answer-book-end c = search rules
 
-shared-slice-read-answer-book : tie.Need-shared-slice-read-answer-book
+shared-slice-read-answer-book : tie.Need-bounds-input-2
 shared-slice-read-answer-book c = search rules
 
-shared-slice-read-answer-book-2 : tie.Need-shared-slice-read-answer-book-2
+shared-slice-read-answer-book-2 : tie.Need-bounds-input-3
 shared-slice-read-answer-book-2 c = search rules
 
-answer-book-requires : tie.Need-answer-book-requires
+answer-book-requires : tie.Need-answer_book-requires
 answer-book-requires c κs = search rules
 
-same-length-2 : tie.Need-same-length-2
+same-length-2 : tie.Need-shape_of-out
 same-length-2 c = search rules
 
-returns-2 : tie.Need-returns-2
+returns-2 : tie.Need-returns
 returns-2 c =
-    let call = c.before.before in
-    let flags = call.before.before.before.before.before in
-    let long = flags.before.before.before in
-    let s = long.before.before.before.args.input.now in
-    let wrote = call.answer-book.ensures in
+    let s = c.args.input.now in
+    let wrote = c.answer_book.ensures in
     let front = wrote-front wrote.wrote in
     let is : AnsweredBy true s wrote.text =
-    subst (λ n. AnsweredOf (reading (drop 4 s)) n (get_or s 2 0) (get_or s 3 0) wrote.text) flags.u16-from.ensures
-    (subst (λ b. AnsweredOf (reading b) flags.u16-from.result (get_or s 2 0) (get_or s 3 0) wrote.text) (part_rest 4 s) wrote.is) in
+    subst (λ n. AnsweredOf (reading (drop 4 s)) n (get_or s 2 0) (get_or s 3 0) wrote.text) c.u16_from-flags.ensures
+    (subst (λ b. AnsweredOf (reading b) c.u16_from-flags.result (get_or s 2 0) (get_or s 3 0) wrote.text) (part_rest 4 s) wrote.is) in
     record {
       text = wrote.text;
-      answered = subst (λ x. AnsweredBy x s wrote.text) (sym (le-leb 4 (length s) long.if1.false)) is;
+      answered = subst (λ x. AnsweredBy x s wrote.text) (sym (le-leb 4 (length s) c.if-input-lt4.false)) is;
       length-is = front.0;
       bytes_are = front.1;
     }
 
-pub answer-in-spec : {M : Type 1} → statement M
-answer-in-spec =
+pub answer_in_spec : {M : Type 1} → statement M
+answer_in_spec =
     tie.close
     (tie.spec
     refusal-text-requires

@@ -27,120 +27,107 @@ fresh-walk = replicate longest 0
 fresh : length fresh-walk ≡ longest
 fresh = length-replicate {A = ℕ} longest 0
 
-refusal-text-requires : tie.Need-refusal-text-requires
+refusal-text-requires : tie.Need-refusal_text-requires
 refusal-text-requires c κs = search rules
 
-same_length : tie.Need-same-length
+same_length : tie.Need-shape_of-out-then-vertices-start
 same_length c = search rules
 
-returns : tie.Need-returns
+returns : tie.Need-returns-then-vertices-start
 returns c b h =
-    let call = c.before.before in
-    let then1 = call.before.before in
-    let a = then1.before.before.before.args in
+    let a = c.args in
     record {
       text = refusal_text (numbered 7 0);
-      is = answer-fails b a.flags a.start a.end (here (le-ltb a.start b.count (omega (arith, h.graph.vertices_are, then1.if1.true))));
-      wrote = call.refusal-text.ensures;
+      is = answer-fails b a.flags a.start a.end (here (le-ltb a.start b.count (omega (arith, h.graph.vertices_are, c.if-vertices-start.true))));
+      wrote = c.refusal_text.ensures;
     }
 
-refusal-text-requires-2 : tie.Need-refusal-text-requires-2
+refusal-text-requires-2 : tie.Need-refusal_text-requires-then-vertices-end
 refusal-text-requires-2 c κs = search rules
 
-same-length-2 : tie.Need-same-length-2
+same-length-2 : tie.Need-shape_of-out-then-vertices-end
 same-length-2 c = search rules
 
-returns-2 : tie.Need-returns-2
+returns-2 : tie.Need-returns-then-vertices-end
 returns-2 c b h =
-    let call = c.before.before in
-    let then2 = call.before.before in
-    let a = then2.before.before.before.before.args in
+    let a = c.args in
     record {
       text = refusal_text (numbered 7 0);
       is =
           answer-fails b a.flags a.start a.end
-          (later (lt-ltb a.start b.count (omega (arith, h.graph.vertices_are, then2.before.if1.false))) (here (le-ltb a.end b.count (omega (arith, h.graph.vertices_are, then2.if2.true)))));
-      wrote = call.refusal-text2.ensures;
+          (later (lt-ltb a.start b.count (omega (arith, h.graph.vertices_are, c.if-vertices-start.false))) (here (le-ltb a.end b.count (omega (arith, h.graph.vertices_are, c.if-vertices-end.true)))));
+      wrote = c.refusal_text-then-vertices-end.ensures;
     }
 
-slice-aggregate-gather : tie.Need-slice-aggregate-gather
+slice-aggregate-gather : tie.Need-slice_bounds-gather-end
 slice-aggregate-gather c = search rules
 
-gather-requires : tie.Need-gather-requires
+gather-requires : tie.Need-gather-count-requires
 gather-requires c κs = search rules
 
 -- the paths that are known
-gathered : (c : tie.After-gather)
-    → let a = c.before.before.before.before.before.before.args in
+gathered : (c : tie.After-gather-count)
+    → let a = c.args in
     (b : Book) → IsSets b a.counts.paths a.needed.now a.owners.now a.entries.now
-    → (c.gather.result ≡ length (known a.flags b.sets)) × (c.gather.new.1.1.1.1.1.0 ≡ written (known a.flags b.sets))
-gathered c = c.gather.ensures
+    → (c.gather-count.result ≡ length (known a.flags b.sets)) × (c.gather-count.new.1.1.1.1.1.0 ≡ written (known a.flags b.sets))
+gathered c = c.gather-count.ensures
 
-slice-aggregate-find : tie.Need-slice-aggregate-find
+slice-aggregate-find : tie.Need-slice_bounds-find-end
 slice-aggregate-find c = search rules
 
-slice-aggregate-find-2 : tie.Need-slice-aggregate-find-2
+slice-aggregate-find-2 : tie.Need-slice_bounds-find-end-2
 slice-aggregate-find-2 c = search rules
 
-find-requires : tie.Need-find-requires
+find-requires : tie.Need-find-found-requires
 find-requires c κs =
-    let call = c.before.before.before in
-    let else2 = call.before.before in
-    let start = else2.before.before.before.before in
-    let (b, h) = start.requires.0 in
-    let (counted, filled) = gathered call b h.sets in (
+    let (b, h) = c.requires.0 in
+    let (counted, filled) = gathered c.before.before.before b h.sets in (
       (b, h.graph),
       (
-        ap (λ n. valid n call.gather.new.1.1.1.1.1.0 call.gather.result) h.graph.vertices_are ∙ gathered_valid start.args.flags b h.graph.well counted filled,
-        (else2.before.if1.false, omega (arith, fresh)),
+        ap (λ n. valid n c.gather-count.new.1.1.1.1.1.0 c.gather-count.result) h.graph.vertices_are ∙ gathered_valid c.args.flags b h.graph.well counted filled,
+        (c.if-vertices-start.false, omega (arith, fresh)),
       ),
     )
 
 -- what is found under them
-found : (c : tie.After-find)
-    → let a = c.before.before.before.before.before.before.before.before.before.before.args in
+found : (c : tie.After-find-found)
+    → let a = c.args in
     (b : Book) → IsLoaded b a.counts a.weights.now a.needed.now a.owners.now a.entries.now
-    → Searched (graph b) (known a.flags b.sets) a.start a.end fresh-walk c.find.result c.find.new.1.1.1.1.1.1.0
+    → Searched (graph b) (known a.flags b.sets) a.start a.end fresh-walk c.find-found.result c.find-found.new.1.1.1.1.1.1.0
 found c b h =
-    let call = c.before.before.before.before in
-    let a = call.before.before.before.before.before.before.args in
-    let (counted, filled) = gathered call b h.sets in
-    subst (λ G. Searched (graph b) G a.start a.end fresh-walk c.find.result c.find.new.1.1.1.1.1.1.0)
-    (gathered_spells a.flags b h.graph.well counted filled) (c.find.ensures b h.graph)
+    let a = c.args in
+    let (counted, filled) = gathered c.before.before.before.before b h.sets in
+    subst (λ G. Searched (graph b) G a.start a.end fresh-walk c.find-found.result c.find-found.new.1.1.1.1.1.1.0)
+    (gathered_spells a.flags b h.graph.well counted filled) (c.find-found.ensures b h.graph)
 
-slice-aggregate-found-text : tie.Need-slice-aggregate-found-text
+slice-aggregate-found-text : tie.Need-slice_bounds-found_text-end
 slice-aggregate-found-text c = search rules
 
-found-text-requires : tie.Need-found-text-requires
+found-text-requires : tie.Need-found_text-requires
 found-text-requires c κs =
-    let call = c.before.before.before in
-    let start = call.before.before.before.before.before.before.before.before.before.before in
-    let (b, h) = start.requires.0 in (
-      found-standing (graph b) _ start.args.start start.args.end fresh-walk _ call.find.result (found call b h),
-      (omega (arith, call.find.auto.1.1.1.1.1.1.0, fresh), start.requires.1),
+    let (b, h) = c.requires.0 in (
+      found-standing (graph b) _ c.args.start c.args.end fresh-walk _ c.find-found.result (found c.before.before.before b h),
+      (omega (arith, c.find-found.auto.1.1.1.1.1.1.0, fresh), c.requires.1),
     )
 
-same-length-3 : tie.Need-same-length-3
+same-length-3 : tie.Need-shape_of-out
 same-length-3 c = search rules
 
-returns-3 : tie.Need-returns-3
+returns-3 : tie.Need-returns
 returns-3 c b h =
-    let call = c.before.before in
-    let find = call.before.before.before.before in
-    let else2 = find.before.before.before.before.before.before in
-    let a = else2.before.before.before.before.args in
-    let text = found_text find.find.result find.find.new.1.1.1.1.1.1.0 in
+    let a = c.args in
+    let text = found_text c.find-found.result c.find-found.new.1.1.1.1.1.1.0 in
     record {
       text = text;
       is =
           answer-found b a.flags a.start a.end
-          (lt-ltb a.start b.count (omega (arith, h.graph.vertices_are, else2.before.if1.false)), (lt-ltb a.end b.count (omega (arith, h.graph.vertices_are, else2.if2.false)), tt)) text
-          (found-text (graph b) _ a.start a.end fresh-walk _ find.find.result (found find b h));
-      wrote = call.found-text.ensures;
+          (lt-ltb a.start b.count (omega (arith, h.graph.vertices_are, c.if-vertices-start.false)), (lt-ltb a.end b.count (omega (arith, h.graph.vertices_are, c.if-vertices-end.false)), tt)) text
+          (found-text (graph b) _ a.start a.end fresh-walk _ c.find-found.result (found c.before.before.before.before.before.before b h));
+      wrote = c.found_text.ensures;
     }
 
-pub answer-loaded-spec : {M : Type 1} → statement M
-answer-loaded-spec =
+pub answer_loaded_spec : {M : Type 1} → statement M
+answer_loaded_spec =
     tie.close
     (tie.spec
     refusal-text-requires

@@ -7,7 +7,7 @@ use Rattle.trials.specs.Operations.{Leaves}
 use Rattle.any_cases.proofs.make.Statement.{statement}
 use Rattle.any_cases.proofs.make.Tie as tie
 
-enum_told : tie.Need-enum-told
+enum_told : tie.Need-enum_told-1
 enum_told c = search rules
 
 bind-requires : tie.Need-bind-requires
@@ -16,7 +16,7 @@ bind-requires c κs = search rules
 bound-requires : tie.Need-bound-requires
 bound-requires c κs = search rules
 
-enum-told-2 : tie.Need-enum-told-2
+enum-told-2 : tie.Need-enum_told-in-Check
 enum-told-2 c = search rules
 
 check-requires : tie.Need-check-requires
@@ -25,93 +25,93 @@ check-requires c κs = search rules
 checked-requires : tie.Need-checked-requires
 checked-requires c κs = search rules
 
-enum-told-3 : tie.Need-enum-told-3
+enum-told-3 : tie.Need-enum_told-in-Plan
 enum-told-3 c = search rules
 
-plan-requires : tie.Need-plan-requires
+plan-requires : tie.Need-plan-answer-requires
 plan-requires c κs = search rules
 
 planned-requires : tie.Need-planned-requires
 planned-requires c κs = search rules
 
-enum-told-4 : tie.Need-enum-told-4
+enum-told-4 : tie.Need-enum_told-in-Begin
 enum-told-4 c = search rules
 
-begin-requires : tie.Need-begin-requires
+begin-requires : tie.Need-begin-answer-requires
 begin-requires c κs = search rules
 
 begun-requires : tie.Need-begun-requires
 begun-requires c κs = search rules
 
-enum-told-5 : tie.Need-enum-told-5
+enum-told-5 : tie.Need-enum_told-in-Passed
 enum-told-5 c = search rules
 
-report-passed-requires : tie.Need-report-passed-requires
+report-passed-requires : tie.Need-report_passed-requires
 report-passed-requires c κs = search rules
 
 reported-requires : tie.Need-reported-requires
 reported-requires c κs = search rules
 
-enum-told-6 : tie.Need-enum-told-6
+enum-told-6 : tie.Need-enum_told-in-Failed
 enum-told-6 c = search rules
 
-report-failed-requires : tie.Need-report-failed-requires
+report-failed-requires : tie.Need-report_failed-answer-requires
 report-failed-requires c κs = search rules
 
-reported-requires-2 : tie.Need-reported-requires-2
+reported-requires-2 : tie.Need-reported-requires-in-Failed
 reported-requires-2 c κs = search rules
 
-same_length : tie.Need-same-length
+same_length : tie.Need-shape_of-paths-in-Bind
 same_length c = search rules
 
-returns : tie.Need-returns
-returns c = rw c.before.before.before.before.before.enum_told.given.1 (c.before.before.before.bind.ensures.1, refl)
+returns : tie.Need-returns-in-Bind
+returns c = rw c.in-Bind.is (c.bind.ensures.1, refl)
 
-same-length-2 : tie.Need-same-length-2
+same-length-2 : tie.Need-shape_of-paths-in-Check
 same-length-2 c = search rules
 
-returns-2 : tie.Need-returns-2
-returns-2 c = rw c.before.before.before.enum-told2.given.1 (refl, refl)
+returns-2 : tie.Need-returns-in-Check
+returns-2 c = rw c.in-Check.is (refl, refl)
 
-same-length-3 : tie.Need-same-length-3
+same-length-3 : tie.Need-shape_of-paths-in-Plan
 same-length-3 c = search rules
 
-same-length-4 : tie.Need-same-length-4
+same-length-4 : tie.Need-shape_of-walk-in-Plan
 same-length-4 c = search rules
 
-returns-3 : tie.Need-returns-3
-returns-3 c = rw c.before.before.before.before.before.before.before.enum-told3.given.1 (refl, (c.before.before.before.before.plan.result, c.before.before.before.before.plan.ensures))
+returns-3 : tie.Need-returns-in-Plan
+returns-3 c = rw c.in-Plan.is (refl, (c.plan-answer.result, c.plan-answer.ensures))
 
-same-length-5 : tie.Need-same-length-5
+same-length-5 : tie.Need-shape_of-paths-in-Begin
 same-length-5 c = search rules
 
-same-length-6 : tie.Need-same-length-6
+same-length-6 : tie.Need-shape_of-walk-in-Begin
 same-length-6 c = search rules
 
-returns-4 : tie.Need-returns-4
+returns-4 : tie.Need-returns-in-Begin
 returns-4 c =
-    let left = c.before.before.before.before.before.before.begin.ensures in
-    rw c.before.before.before.before.before.before.before.before.before.enum-told4.given.1 (ap (λ (l : Leaves Begun). l.paths) left, ap (λ (l : Leaves Begun). l.walk) left)
+    let left = c.begin-answer.ensures in
+    rw c.in-Begin.is (ap (λ (l : Leaves Begun). l.paths) left, ap (λ (l : Leaves Begun). l.walk) left)
 
-same-length-7 : tie.Need-same-length-7
+same-length-7 : tie.Need-shape_of-paths-in-Passed
 same-length-7 c = search rules
 
-same-length-8 : tie.Need-same-length-8
+same-length-8 : tie.Need-shape_of-walk-in-Passed
 same-length-8 c = search rules
 
-returns-5 : tie.Need-returns-5
-returns-5 c = rw c.before.before.before.before.before.enum-told5.given.1 (refl, refl)
+returns-5 : tie.Need-returns-in-Passed
+returns-5 c = rw c.in-Passed.is (refl, refl)
 
-same-length-9 : tie.Need-same-length-9
+same-length-9 : tie.Need-shape_of-paths-in-Failed
 same-length-9 c = search rules
 
-same-length-10 : tie.Need-same-length-10
+same-length-10 : tie.Need-shape_of-walk-in-Failed
 same-length-10 c = search rules
 
-returns-6 : tie.Need-returns-6
+returns-6 : tie.Need-returns-in-Failed
 returns-6 c =
-    let left = c.before.before.before.before.before.before.report-failed.ensures in
-    rw c.before.before.before.before.before.before.before.before.before.enum-told6.given.1 (ap (λ (l : Leaves Reported). l.paths) left, ap (λ (l : Leaves Reported). l.walk) left)
+    let left = c.report_failed-answer.ensures in
+    rw c.in-Failed.is (ap (λ (l : Leaves Reported). l.paths) left, ap (λ (l : Leaves Reported). l.walk) left)
 
 pub make_spec : {M : Type 1} → statement M
 make_spec =

@@ -7,56 +7,55 @@ use Rattle.automaton.proofs.Fills.{copied_none, copied_more}
 use Rattle.automaton.proofs.copy_row.Statement.{statement}
 use Rattle.automaton.proofs.copy_row.Tie as tie
 
-abbrev invariant-loop : tie.invariant-loop
+abbrev invariant-loop : tie.invariant-loop-v
 invariant-loop steps₀ from to vertices v₀ steps v = (v ≤ vertices) × Copied steps₀ steps from to v
 
-abbrev decreases-loop : tie.decreases-loop
+abbrev decreases-loop : tie.decreases-loop-v
 decreases-loop steps₀ from to vertices v₀ steps v = vertices - v
 
-loop-holds : tie.Need-loop-init invariant-loop decreases-loop
+loop-holds : tie.Need-loop-v-init invariant-loop decreases-loop
 loop-holds c = (omega arith, copied_none)
 
-add-steps : tie.Need-overflow-add-steps invariant-loop decreases-loop
+add-steps : tie.Need-overflow_add-steps invariant-loop decreases-loop
 add-steps c = omega arith
 
-mul-steps : tie.Need-overflow-mul-steps invariant-loop decreases-loop
+mul-steps : tie.Need-offset_bounds-steps-from invariant-loop decreases-loop
 mul-steps c = omega arith
 
-slice-read-steps : tie.Need-slice-read-steps invariant-loop decreases-loop
+slice-read-steps : tie.Need-bounds-steps-from invariant-loop decreases-loop
 slice-read-steps c = omega arith
 
-add-steps-2 : tie.Need-overflow-add-steps-2 invariant-loop decreases-loop
+add-steps-2 : tie.Need-overflow_add-steps-in-loop-v invariant-loop decreases-loop
 add-steps-2 c = omega arith
 
-mul-steps-2 : tie.Need-overflow-mul-steps-2 invariant-loop decreases-loop
+mul-steps-2 : tie.Need-offset_bounds-steps-to invariant-loop decreases-loop
 mul-steps-2 c = omega arith
 
-slice-write-steps : tie.Need-slice-write-steps invariant-loop decreases-loop
+slice-write-steps : tie.Need-bounds-steps-to invariant-loop decreases-loop
 slice-write-steps c = omega arith
 
-add-v : tie.Need-overflow-add-v invariant-loop decreases-loop
+add-v : tie.Need-overflow_add-v invariant-loop decreases-loop
 add-v c = omega arith
 
-loop-less : tie.Need-loop-smaller invariant-loop decreases-loop
+loop-less : tie.Need-loop-v-smaller invariant-loop decreases-loop
 loop-less c = omega arith
 
-loop-again : tie.Need-loop-preserved invariant-loop decreases-loop
+loop-again : tie.Need-loop-v-preserved invariant-loop decreases-loop
 loop-again c =
-    let at-loop = c.before.before in
-    let a = at-loop.before.args in
-    (omega arith, copied_more at-loop.loop.invariant.1 (omega arith) (omega arith))
+    let a = c.args in
+    (omega arith, copied_more c.loop-v.invariant.1 (omega arith) (omega arith))
 
-same_length : tie.Need-same-length invariant-loop decreases-loop
+same_length : tie.Need-shape_of-steps invariant-loop decreases-loop
 same_length c = omega arith
 
 returns : tie.Need-returns invariant-loop decreases-loop
 returns c =
-    let a = c.before.before.args in
-    let done : c.before.loop.v ≡ a.vertices = omega arith in
-    subst (λ v. Copied a.steps.now c.before.loop.steps a.from a.to v) done c.before.loop.invariant.1
+    let a = c.args in
+    let done : c.loop-v.v ≡ a.vertices = omega arith in
+    subst (λ v. Copied a.steps.now c.loop-v.steps a.from a.to v) done c.loop-v.invariant.1
 
-pub copy-row-spec : {M : Type 1} → statement M
-copy-row-spec =
+pub copy_row_spec : {M : Type 1} → statement M
+copy_row_spec =
     tie.close
     (tie.spec
     invariant-loop

@@ -8,63 +8,62 @@ use Rattle.automaton.proofs.Fills.{singles-none, singles-more}
 use Rattle.automaton.proofs.singles.Statement.{statement}
 use Rattle.automaton.proofs.singles.Tie as tie
 
-abbrev invariant-loop : tie.invariant-loop
+abbrev invariant-loop : tie.invariant-loop-q
 invariant-loop vertices steps₀ blocked₀ latest₀ q₀ steps blocked latest q =
     (q ≤ vertices) × (length steps ≡ length steps₀) × (length blocked ≡ length blocked₀) × (length latest ≡ length latest₀) × Singles vertices q steps blocked latest
 
-abbrev decreases-loop : tie.decreases-loop
+abbrev decreases-loop : tie.decreases-loop-q
 decreases-loop vertices steps₀ blocked₀ latest₀ q₀ steps blocked latest q = vertices - q
 
-loop-holds : tie.Need-loop-init invariant-loop decreases-loop
+loop-holds : tie.Need-loop-q-init invariant-loop decreases-loop
 loop-holds c = (omega arith, refl, refl, refl, singles-none)
 
-mul-single-row : tie.Need-overflow-mul-single-row invariant-loop decreases-loop
+mul-single-row : tie.Need-overflow_mul-q invariant-loop decreases-loop
 mul-single-row c = omega arith
 
-single-row-requires : tie.Need-single-row-requires invariant-loop decreases-loop
+single-row-requires : tie.Need-single_row-requires invariant-loop decreases-loop
 single-row-requires c κs = omega arith
 
-mul-blocked : tie.Need-overflow-mul-blocked invariant-loop decreases-loop
+mul-blocked : tie.Need-offset_bounds-blocked-q invariant-loop decreases-loop
 mul-blocked c = omega arith
 
-slice-write-blocked : tie.Need-slice-write-blocked invariant-loop decreases-loop
+slice-write-blocked : tie.Need-bounds-blocked-q invariant-loop decreases-loop
 slice-write-blocked c = omega arith
 
-cast-latest : tie.Need-overflow-cast-latest invariant-loop decreases-loop
+cast-latest : tie.Need-overflow_cast-latest invariant-loop decreases-loop
 cast-latest c = omega arith
 
-slice-write-latest : tie.Need-slice-write-latest invariant-loop decreases-loop
+slice-write-latest : tie.Need-bounds-latest-q invariant-loop decreases-loop
 slice-write-latest c = omega arith
 
-add-q : tie.Need-overflow-add-q invariant-loop decreases-loop
+add-q : tie.Need-overflow_add-q invariant-loop decreases-loop
 add-q c = omega arith
 
-loop-less : tie.Need-loop-smaller invariant-loop decreases-loop
+loop-less : tie.Need-loop-q-smaller invariant-loop decreases-loop
 loop-less c = omega arith
 
-loop-again : tie.Need-loop-preserved invariant-loop decreases-loop
+loop-again : tie.Need-loop-q-preserved invariant-loop decreases-loop
 loop-again c =
-    let at-loop = c.before.before.before.before.before in
-    let l = at-loop.loop in
-    (omega arith, omega arith, simp length-set l.invariant.2, simp length-set l.invariant.3, singles-more l.invariant.4 c.before.before.single-row.ensures (omega arith) (omega arith) (omega arith))
+    let l = c.loop-q in
+    (omega arith, omega arith, simp length-set l.invariant.2, simp length-set l.invariant.3, singles-more l.invariant.4 c.single_row.ensures (omega arith) (omega arith) (omega arith))
 
-same_length : tie.Need-same-length invariant-loop decreases-loop
+same_length : tie.Need-shape_of-steps invariant-loop decreases-loop
 same_length c = omega arith
 
-same-length-2 : tie.Need-same-length-2 invariant-loop decreases-loop
+same-length-2 : tie.Need-shape_of-blocked invariant-loop decreases-loop
 same-length-2 c = omega arith
 
-same-length-3 : tie.Need-same-length-3 invariant-loop decreases-loop
+same-length-3 : tie.Need-shape_of-latest invariant-loop decreases-loop
 same-length-3 c = omega arith
 
 returns : tie.Need-returns invariant-loop decreases-loop
 returns c =
-    let a = c.before.before.before.before.before.args in
-    let done : c.before.loop.q ≡ a.vertices = omega arith in
-    subst (λ q. Singles a.vertices q c.before.loop.steps c.before.loop.blocked c.before.loop.latest) done c.before.loop.invariant.4
+    let a = c.args in
+    let done : c.loop-q.q ≡ a.vertices = omega arith in
+    subst (λ q. Singles a.vertices q c.loop-q.steps c.loop-q.blocked c.loop-q.latest) done c.loop-q.invariant.4
 
-pub singles-spec : {M : Type 1} → statement M
-singles-spec =
+pub singles_spec : {M : Type 1} → statement M
+singles_spec =
     tie.close
     (tie.spec
     invariant-loop

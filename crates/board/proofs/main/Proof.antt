@@ -4,31 +4,31 @@ use Rattle.board_text.specs.BoardLaws.{printed_size, printed_within}
 use Rattle.board.proofs.main.Statement.{statement}
 use Rattle.board.proofs.main.Tie as tie
 
-large-buffer-requires : tie.Need-large-buffer-requires
+large-buffer-requires : tie.Need-large_buffer-input-requires
 large-buffer-requires c κs = search rules
 
-slice-aggregate-read-full : tie.Need-slice-aggregate-read-full
+slice-aggregate-read-full : tie.Need-slice_bounds-read_full-end
 slice-aggregate-read-full c = search rules
 
-read-full-requires : tie.Need-read-full-requires
+read-full-requires : tie.Need-read_full-n-requires
 read-full-requires c κs = search rules
 
-array-share-prefix-input : tie.Need-array-share-prefix-input
+array-share-prefix-input : tie.Need-slice_bounds-input-end
 array-share-prefix-input c = search rules
 
-slice-aggregate-board : tie.Need-slice-aggregate-board
+slice-aggregate-board : tie.Need-slice_bounds-board-end
 slice-aggregate-board c = search rules
 
-board-requires : tie.Need-board-requires
+board-requires : tie.Need-board-size-requires
 board-requires c κs = search rules
 
-array-share-prefix-out : tie.Need-array-share-prefix-out
-array-share-prefix-out c = printed_within _ _ _ _ c.board.ensures
+array-share-prefix-out : tie.Need-slice_bounds-out-end
+array-share-prefix-out c = printed_within _ _ _ _ c.board-size.ensures
 
-slice-aggregate-write-all : tie.Need-slice-aggregate-write-all
-slice-aggregate-write-all c = printed_size _ _ _ _ c.before.board.ensures
+slice-aggregate-write-all : tie.Need-slice_bounds-write_all-end
+slice-aggregate-write-all c = printed_size _ _ _ _ c.board-size.ensures
 
-write-all-requires : tie.Need-write-all-requires
+write-all-requires : tie.Need-write_all-requires
 write-all-requires c κs = search rules
 
 returns : tie.Need-returns

@@ -9,62 +9,54 @@ use Rattle.board_text.specs.Board.{board_of}
 use Rattle.board_text.proofs.board_book.Statement.{statement}
 use Rattle.board_text.proofs.board_book.Tie as tie
 
-load-requires : tie.Need-load-requires
+load-requires : tie.Need-load-read-requires
 load-requires c κs = search rules
 
-enum-known-read : tie.Need-enum-known-read
+enum-known-read : tie.Need-enum_known-read
 enum-known-read c = search rules
 
-refusal-text-requires : tie.Need-refusal-text-requires
+refusal-text-requires : tie.Need-refusal_text-requires
 refusal-text-requires c κs = search rules
 
-enum-known-read-2 : tie.Need-enum-known-read-2
+enum-known-read-2 : tie.Need-enum_known-read-in-Read-1
 enum-known-read-2 c = search rules
 
 -- the book that was read
-book : (c : tie.After-read2)
-    → let load = c.before.before in
-    Loaded load.before.before.before.before.before.before.before.args.bytes.now c.read2.given.0.0
-    load.load.new.1.0 load.load.new.1.1.0 load.load.new.1.1.1.0 load.load.new.1.1.1.1.0
+book : (c : tie.In-Read-2)
+    → Loaded c.args.bytes.now c.in-Read.counts
+    c.load-read.new.1.0 c.load-read.new.1.1.0 c.load-read.new.1.1.1.0 c.load-read.new.1.1.1.1.0
 book c =
-    let load = c.before.before in
-    loaded load.before.before.before.before.before.before.before.args.bytes.now load.load.result c.read2.given.0.0 _ _ _ _
-    load.load.ensures.0 load.load.ensures.1 c.read2.given.1
+    loaded c.args.bytes.now c.load-read.result c.in-Read.counts _ _ _ _
+    c.load-read.ensures.0 c.load-read.ensures.1 c.in-Read.is
 
-slice-aggregate-board-loaded : tie.Need-slice-aggregate-board-loaded
+slice-aggregate-board-loaded : tie.Need-slice_bounds-board_loaded-end
 slice-aggregate-board-loaded c = sym (sets-entries (book c.before.before.before.before.before).tables.sets)
 
-board-loaded-requires : tie.Need-board-loaded-requires
+board-loaded-requires : tie.Need-board_loaded-requires
 board-loaded-requires c κs =
-    let read = c.before.before.before.before.before.before in
-    let b = book read in
-    ((b.book, b.tables), read.before.before.before.before.before.before.before.before.before.requires)
+    let b = book c.before.before.before.before.before.before in
+    ((b.book, b.tables), c.requires)
 
-same_length : tie.Need-same-length
+same_length : tie.Need-shape_of-out-in-Refused
 same_length c = search rules
 
-returns : tie.Need-returns
+returns : tie.Need-returns-in-Refused
 returns c =
-    let call = c.before.before in
-    let read = call.before.before.before in
-    let load = read.before.before in
-    let a = load.before.before.before.before.before.before.before.args in
-    let is = answer-refused (reading a.bytes.now) _ (sym load.load.ensures.0 ∙ read.read.given.1) in
-    wrote_as (ap (λ x. board_of x a.flags a.start) (sym is)) call.refusal-text.ensures
+    let a = c.args in
+    let is = answer-refused (reading a.bytes.now) _ (sym c.load-read.ensures.0 ∙ c.in-Refused.is) in
+    wrote_as (ap (λ x. board_of x a.flags a.start) (sym is)) c.refusal_text.ensures
 
-same-length-2 : tie.Need-same-length-2
+same-length-2 : tie.Need-shape_of-out-in-Read
 same-length-2 c = search rules
 
-returns-2 : tie.Need-returns-2
+returns-2 : tie.Need-returns-in-Read
 returns-2 c =
-    let call = c.before.before in
-    let read = call.before.before.before.before.before.before.before in
-    let a = read.before.before.before.before.before.before.before.before.before.args in
-    let b = book read in
-    wrote_as (ap (λ x. board_of x a.flags a.start) (sym b.is)) (call.board-loaded.ensures b.book b.tables)
+    let a = c.args in
+    let b = book c.before.before.before.before.before.before.before.before.before in
+    wrote_as (ap (λ x. board_of x a.flags a.start) (sym b.is)) (c.board_loaded.ensures b.book b.tables)
 
-pub board-book-spec : {M : Type 1} → statement M
-board-book-spec =
+pub board_book_spec : {M : Type 1} → statement M
+board_book_spec =
     tie.close
     (tie.spec
     load-requires

@@ -15,76 +15,55 @@ use Rattle.board_text.proofs.line.Tie as tie
 size : (c : tie.Start) → length (decimal c.args.v) ≤ 20
 size c = decimal-word c.args.v c.ranges.v.fits
 
-decimal-requires : tie.Need-decimal-requires
+decimal-requires : tie.Need-decimal-number-requires
 decimal-requires c κs =
-    let start = c.before.before in
-    omega (arith, start.requires, size start)
+    omega (arith, c.requires, size c.before.before)
 
-slice-aggregate-word : tie.Need-slice-aggregate-word
-slice-aggregate-word c = search rules
-
-word-requires : tie.Need-word-requires
+word-requires : tie.Need-word-blank-requires
 word-requires c κs =
-    let number = c.before.before.before.before in
-    let start = number.before.before.before in
-    omega (arith, number.decimal.ensures.place, number.decimal.auto.1.0, start.requires, size start)
+    omega (arith, c.decimal-number.ensures.place, c.decimal-number.auto.1.0, c.requires, size c.before.before.before.before.before.before.before.before)
 
 -- the vertex and the blank
-front : (c : tie.After-word)
-    → let a = c.before.before.before.before.before.before.before.before.args in
-    Wrote (decimal a.v ++ (32 ∷ [])) a.at a.out.now c.word.result c.word.new.1.0 × (c.word.result ≤ a.at + 21)
+front : (c : tie.After-word-blank)
+    → let a = c.args in
+    Wrote (decimal a.v ++ (32 ∷ [])) a.at a.out.now c.word-blank.result c.word-blank.new.1.0 × (c.word-blank.result ≤ a.at + 21)
 front c =
-    let number = c.before.before.before.before.before in
-    let start = number.before.before.before in
-    (wrote_then number.decimal.ensures c.word.ensures, omega (arith, number.decimal.ensures.place, c.word.ensures.place, size start))
+    (wrote_then c.decimal-number.ensures c.word-blank.ensures, omega (arith, c.decimal-number.ensures.place, c.word-blank.ensures.place, size c.before.before.before.before.before.before.before.before.before))
 
-slice-aggregate-word-2 : tie.Need-slice-aggregate-word-2
-slice-aggregate-word-2 c = search rules
-
-word-requires-2 : tie.Need-word-requires-2
+word-requires-2 : tie.Need-word-requires
 word-requires-2 c κs =
-    let blank = c.before.before.before.before.before in
-    omega (arith, (front blank).1, blank.word.auto.1.0, blank.before.before.before.before.before.decimal.auto.1.0, blank.before.before.before.before.before.before.before.before.requires)
+    omega (arith, (front c.before.before.before.before.before.before).1, c.word-blank.auto.1.0, c.decimal-number.auto.1.0, c.requires)
 
-same_length : tie.Need-same-length
+same_length : tie.Need-shape_of-out-then-weight-eq-NO_END
 same_length c = search rules
 
-returns : tie.Need-returns
+returns : tie.Need-returns-then-weight-eq-NO_END
 returns c =
-    let call = c.before.before in
-    let none = call.before.before.before in
-    let blank = none.before.before.before in
-    let a = blank.before.before.before.before.before.before.before.before.args in (
-      wrote_as (none_line a.v a.weight a.hops none.if1.true) (wrote_then (front blank).0 call.word2.ensures),
-      omega (arith, call.word2.ensures.place, (front blank).1),
+    let a = c.args in (
+      wrote_as (none_line a.v a.weight a.hops c.if-weight-eq-NO_END.true) (wrote_then (front c.before.before.before.before.before.before.before.before.before).0 c.word.ensures),
+      omega (arith, c.word.ensures.place, (front c.before.before.before.before.before.before.before.before.before).1),
     )
 
-cost-text-requires : tie.Need-cost-text-requires
+cost-text-requires : tie.Need-cost_text-requires
 cost-text-requires c κs =
-    let blank = c.before.before.before.before in
-    omega (arith, (front blank).1, blank.word.auto.1.0, blank.before.before.before.before.before.decimal.auto.1.0, blank.before.before.before.before.before.before.before.before.requires)
+    omega (arith, (front c.before.before.before.before).1, c.word-blank.auto.1.0, c.decimal-number.auto.1.0, c.requires)
 
-same-length-2 : tie.Need-same-length-2
+same-length-2 : tie.Need-shape_of-out
 same-length-2 c = search rules
 
-returns-2 : tie.Need-returns-2
+returns-2 : tie.Need-returns
 returns-2 c =
-    let call = c.before.before in
-    let some = call.before.before in
-    let blank = some.before.before.before in
-    let a = blank.before.before.before.before.before.before.before.before.args in (
-      wrote_as (cost_line a.v a.weight a.hops some.if1.false) (wrote_then (front blank).0 call.cost-text.ensures.0),
-      omega (arith, call.cost-text.ensures.1, (front blank).1),
+    let a = c.args in (
+      wrote_as (cost_line a.v a.weight a.hops c.if-weight-eq-NO_END.false) (wrote_then (front c.before.before.before.before.before.before.before).0 c.cost_text.ensures.0),
+      omega (arith, c.cost_text.ensures.1, (front c.before.before.before.before.before.before.before).1),
     )
 
-pub line-spec : {M : Type 1} → statement M
-line-spec =
+pub line_spec : {M : Type 1} → statement M
+line_spec =
     tie.close
     (tie.spec
     decimal-requires
-    slice-aggregate-word
     word-requires
-    slice-aggregate-word-2
     word-requires-2
     same_length
     returns

@@ -14,80 +14,75 @@ use Rattle.book.proofs.Loop.{Reached, nothing, started, finished, stopped, withi
 use Rattle.book.proofs.load.Statement.{statement}
 use Rattle.book.proofs.load.Tie as tie
 
-abbrev invariant-loop : tie.invariant-loop
+abbrev invariant-loop : tie.invariant-loop-at
 invariant-loop bytes weights₀ flags₀ owners₀ entries₀ at₀ counts₀ weights flags owners entries at counts =
     Reached bytes at counts weights flags owners entries
 
-abbrev decreases-loop : tie.decreases-loop
+abbrev decreases-loop : tie.decreases-loop-at
 decreases-loop bytes weights₀ flags₀ owners₀ entries₀ at₀ counts₀ weights flags owners entries at counts = length bytes - at
 
-enum-known-step : tie.Need-enum-known-step invariant-loop decreases-loop
+enum-known-step : tie.Need-enum_known-step invariant-loop decreases-loop
 enum-known-step c = search rules
 
-enum_told : tie.Need-enum-told invariant-loop decreases-loop
+enum_told : tie.Need-enum_told-1 invariant-loop decreases-loop
 enum_told c = search rules
 
 -- what has been reached where a field is read
-abbrev reached : (c : tie.After-field invariant-loop decreases-loop) → let at-loop = c.before.before.before.before.before.before in
-    Reached at-loop.before.before.before.args.bytes.now at-loop.loop.at at-loop.loop.counts at-loop.loop.weights at-loop.loop.flags at-loop.loop.owners at-loop.loop.entries
-reached c = c.before.before.before.before.before.before.loop.invariant
+abbrev reached : (c : tie.After-field-step invariant-loop decreases-loop) → Reached c.args.bytes.now c.loop-at.at c.loop-at.counts c.loop-at.weights c.loop-at.flags c.loop-at.owners c.loop-at.entries
+reached c = c.loop-at.invariant
 
-returns : tie.Need-returns invariant-loop decreases-loop
+returns : tie.Need-returns-then-bytes-eq0 invariant-loop decreases-loop
 returns c =
-    let s = c.before.before.args.bytes.now in
-    let is = nothing s c.if1.true in
+    let s = c.args.bytes.now in
+    let is = nothing s c.if-bytes-eq0.true in
     (sym (ap read_as is), λ b e. absurd (not-both (reading s) b _ e is))
 
-loop-holds : tie.Need-loop-init invariant-loop decreases-loop
+loop-holds : tie.Need-loop-at-init invariant-loop decreases-loop
 loop-holds c =
-    let start = c.before.before in
-    started start.args.bytes.now _ _ _ _ (let none = c.if1.false in omega (arith, none)) start.requires
+    started c.args.bytes.now _ _ _ _ (let none = c.if-bytes-eq0.false in omega (arith, none)) c.requires
 
-field-requires : tie.Need-field-requires invariant-loop decreases-loop
+field-requires : tie.Need-field-step-requires invariant-loop decreases-loop
 field-requires c κs =
-    let r = c.before.before.before.before.before.loop.invariant in
+    let r = c.loop-at.invariant in
     let vertices = ap (λ (d : Counts). d.vertices) r.so_far in
     let arcs = ap (λ (d : Counts). d.arcs) r.so_far in (
-      c.before.before.before.before.loop-test.true,
+      c.loop-at-test.true,
       (omega (arith, vertices, r.tables.graph.well.few-vertices), (omega (arith, arcs, r.few-arcs), sets-entries r.tables.sets)),
     )
 
-returns-2 : tie.Need-returns-2 invariant-loop decreases-loop
+returns-2 : tie.Need-returns-in_default invariant-loop decreases-loop
 returns-2 c =
-    let here = c.before.before in
-    let r = reached here in
-    let done = here.field.ensures r.book r.so_far r.tables in
-    let is = stopped _ _ _ _ _ _ _ r here.before.before.before.before.before.loop-test.true _ done.0 _ c.enum_told.given.1 in
-    (c.enum_told.given.1 ∙ sym (ap read_as is), λ b e. absurd (not-both _ b _ e is))
+    let r = reached c.before in
+    let done = c.field-step.ensures r.book r.so_far r.tables in
+    let is = stopped _ _ _ _ _ _ _ r c.loop-at-test.true _ done.0 _ c.in_default.is in
+    (c.in_default.is ∙ sym (ap read_as is), λ b e. absurd (not-both _ b _ e is))
 
-field-end-requires : tie.Need-field-end-requires invariant-loop decreases-loop
+field-end-requires : tie.Need-field_end-at-requires invariant-loop decreases-loop
 field-end-requires c κs =
-    let here = c.before.before.before in
-    let r = reached here in
-    let done = here.field.ensures r.book r.so_far r.tables in
-    omega (arith, within _ _ _ _ _ _ _ r here.before.before.before.before.before.loop-test.true _ done.0 _ c.before.step.given.1)
+    let r = reached c.before in
+    let done = c.field-step.ensures r.book r.so_far r.tables in
+    omega (arith, within _ _ _ _ _ _ _ r c.loop-at-test.true _ done.0 _ c.in-Read.is)
 
-loop-less : tie.Need-loop-smaller invariant-loop decreases-loop
+loop-less : tie.Need-loop-at-smaller invariant-loop decreases-loop
 loop-less c =
-    let more = c.before.before.before.before.before.before.before.before.before.loop-test.true in
-    omega (arith, c.field-end.ensures, more)
+    let more = c.loop-at-test.true in
+    omega (arith, c.field_end-at.ensures, more)
 
-loop-again : tie.Need-loop-preserved invariant-loop decreases-loop
+loop-again : tie.Need-loop-at-preserved invariant-loop decreases-loop
 loop-again c =
-    let here = c.before.before.before.before in
-    let r = reached here in
-    let done = here.field.ensures r.book r.so_far r.tables in
-    onward _ _ _ _ _ _ _ r here.before.before.before.before.before.loop-test.true _ done.0 _ c.before.before.step.given.1
-    _ c.field-end.ensures _ _ _ _ done.1
+    let r = reached c.before.before in
+    let done = c.field-step.ensures r.book r.so_far r.tables in
+    onward _ _ _ _ _ _ _ r c.loop-at-test.true _ done.0 _ c.in-Read.is
+    _ c.field_end-at.ensures _ _ _ _ done.1
 
-returns-3 : tie.Need-returns-3 invariant-loop decreases-loop
+returns-3 : tie.Need-returns invariant-loop decreases-loop
 returns-3 c =
-    let r = c.before.loop.invariant in
-    let is = finished _ _ _ _ _ _ _ r c.loop-test.false in (
+    let r = c.loop-at.invariant in
+    let is = finished _ _ _ _ _ _ _ r c.loop-at-test.false in (
       ap Read r.so_far ∙ sym (ap read_as is),
-      λ b e. subst (λ x. IsLoaded x (counts x) c.before.loop.weights c.before.loop.flags c.before.loop.owners c.before.loop.entries)
+      λ b e. subst (λ x. IsLoaded x (counts x) c.loop-at.weights c.loop-at.flags c.loop-at.owners c.loop-at.entries)
           (same-book r.book b (sym is ∙ e))
-          (subst (λ d. IsLoaded r.book d c.before.loop.weights c.before.loop.flags c.before.loop.owners c.before.loop.entries) r.so_far r.tables),
+          (subst (λ d. IsLoaded r.book d c.loop-at.weights c.loop-at.flags c.loop-at.owners c.loop-at.entries) r.so_far r.tables),
     )
 
 pub load_spec : {M : Type 1} → statement M

@@ -38,8 +38,8 @@ loop-less c = omega arith
 
 loop-again : tie.Need-loop-i-preserved invariant-loop decreases-loop
 loop-again c =
-    let l = c.before.before.loop-i in
-    let from = c.before.before.before.args.from.now in (
+    let l = c.loop-i in
+    let from = c.args.from.now in (
       omega arith,
       simp length-set (omega arith),
       rw add-one (take-suc-set l.to l.i _ (omega arith) ∙ ap (λ s. s ++ (get_or from l.i 0 ∷ [])) l.invariant.2 ∙ sym (take-suc from l.i 0 (omega arith))),
@@ -50,8 +50,8 @@ same_length c = omega arith
 
 returns : tie.Need-returns invariant-loop decreases-loop
 returns c =
-    let l = c.before.loop-i in
-    let from = c.before.before.args.from.now in
+    let l = c.loop-i in
+    let from = c.args.from.now in
     sym (take_all l.i l.to (omega arith)) ∙ l.invariant.2 ∙ take_all l.i from (omega arith)
 
 pub copy_spec : {M : Type 1} → statement M

@@ -14,8 +14,8 @@ invariant-loop heads first₀ next₀ i₀ first next i = (i ≤ length heads) �
 abbrev decreases-loop : tie.decreases-loop-i
 decreases-loop heads first₀ next₀ i₀ first next i = length heads - i
 
-below : (c : tie.In-loop-i invariant-loop decreases-loop) → at c.before.before.args.heads.now c.before.loop-i.i < length c.before.loop-i.first
-below c = rw c.before.loop-i.invariant.1 (c.before.before.requires.1.1.0 c.before.loop-i.i c.loop-i-test.true)
+below : (c : tie.In-loop-i invariant-loop decreases-loop) → at c.args.heads.now c.loop-i.i < length c.loop-i.first
+below c = rw c.loop-i.invariant.1 (c.requires.1.1.0 c.loop-i.i c.loop-i-test.true)
 
 loop-holds : tie.Need-loop-i-init invariant-loop decreases-loop
 loop-holds c =
@@ -29,7 +29,7 @@ shared-slice-read-h : tie.Need-bounds-heads-i invariant-loop decreases-loop
 shared-slice-read-h c = omega arith
 
 cast-h : tie.Need-overflow_cast-h invariant-loop decreases-loop
-cast-h c = omega (arith, c.shared_slice_known-1.given c.before.before.loop-i.i)
+cast-h c = omega (arith, c.shared_slice_known-1.given c.loop-i.i)
 
 mul_next : tie.Need-offset_bounds-first-h invariant-loop decreases-loop
 mul_next c = omega (arith, below c.before)
@@ -63,8 +63,8 @@ loop-less c = omega arith
 
 loop-again : tie.Need-loop-i-preserved invariant-loop decreases-loop
 loop-again c =
-    let l = c.before.before.before.loop-i in
-    (omega arith, simp length-set l.invariant.1, linking_next c.before.before.loop-i-test.true (below c.before.before) l.invariant.2)
+    let l = c.loop-i in
+    (omega arith, simp length-set l.invariant.1, linking_next c.loop-i-test.true (below c.before.before) l.invariant.2)
 
 same_length : tie.Need-shape_of-first invariant-loop decreases-loop
 same_length c = omega arith
@@ -74,13 +74,13 @@ same-length-2 c = omega arith
 
 returns : tie.Need-returns invariant-loop decreases-loop
 returns c =
-    let l = c.before.loop-i in
-    let heads = c.before.before.args.heads.now in
+    let l = c.loop-i in
+    let heads = c.args.heads.now in
     let end : l.i ≡ length heads = omega arith in
     record { next-length = l.invariant.2.next-length; firsts = rw end at l.invariant.2.firsts; nexts = rw end at l.invariant.2.nexts }
 
-pub link-spec : {M : Type 1} → statement M
-link-spec =
+pub link_spec : {M : Type 1} → statement M
+link_spec =
     tie.close
     (tie.spec
     invariant-loop

@@ -19,18 +19,17 @@ decreases-loop tails heads costs first next table₀ h d i₀ table i = i
 
 -- the tail of the edge that the chain is at is a state of the table
 tail-below : (c : tie.In-loop-i invariant-loop decreases-loop) →
-    at c.before.before.before.before.args.tails.now (c.before.loop-i.i - 1) < length c.before.before.before.before.args.table.now
+    at c.args.tails.now (c.loop-i.i - 1) < length c.args.table.now
 tail-below c =
-    let s = c.before.before.before.before in
-    let l = c.before.loop-i in
-    (s.requires.0.within (edge_at s.args.tails.now s.args.heads.now s.args.costs.now (l.i - 1))
-    (edge-at-mem s.args.tails.now s.args.heads.now s.args.costs.now (l.i - 1) (omega arith) (omega arith) (omega arith))).0
+    let l = c.loop-i in
+    (c.requires.0.within (edge_at c.args.tails.now c.args.heads.now c.args.costs.now (l.i - 1))
+    (edge-at-mem c.args.tails.now c.args.heads.now c.args.costs.now (l.i - 1) (omega arith) (omega arith) (omega arith))).0
 
 -- the chain goes on before the edge that it is at
 chained : (c : tie.In-loop-i invariant-loop decreases-loop) →
-    at c.before.before.before.before.args.next.now (c.before.loop-i.i - 1)
-    ≡ last c.before.before.before.before.args.heads.now (at c.before.before.before.before.args.heads.now (c.before.loop-i.i - 1)) (c.before.loop-i.i - 1)
-chained c = let s = c.before.before.before.before in s.requires.1.0.nexts (c.before.loop-i.i - 1) (omega arith)
+    at c.args.next.now (c.loop-i.i - 1)
+    ≡ last c.args.heads.now (at c.args.heads.now (c.loop-i.i - 1)) (c.loop-i.i - 1)
+chained c = c.requires.1.0.nexts (c.loop-i.i - 1) (omega arith)
 
 mul-d : tie.Need-offset_bounds-table-h invariant-loop decreases-loop
 mul-d c = omega arith
@@ -45,10 +44,10 @@ shared-slice-read-i : tie.Need-bounds-first-h invariant-loop decreases-loop
 shared-slice-read-i c = omega arith
 
 cast-i : tie.Need-overflow_cast-i invariant-loop decreases-loop
-cast-i c = omega (arith, c.shared_slice_known-1.given c.before.before.args.h)
+cast-i c = omega (arith, c.shared_slice_known-1.given c.args.h)
 
 loop-holds : tie.Need-loop-i-init invariant-loop decreases-loop
-loop-holds c = let s = c.before.before in rw (s.requires.1.0.firsts s.args.h (omega arith)) (lowering_none _ _ _ _ _)
+loop-holds c = rw (c.requires.1.0.firsts c.args.h (omega arith)) (lowering_none _ _ _ _ _)
 
 sub-j : tie.Need-overflow_sub-j invariant-loop decreases-loop
 sub-j c = omega arith
@@ -60,7 +59,7 @@ shared-slice-read-tail : tie.Need-bounds-tails-j invariant-loop decreases-loop
 shared-slice-read-tail c = omega arith
 
 cast-tail : tie.Need-overflow_cast-tail invariant-loop decreases-loop
-cast-tail c = omega (arith, c.shared_slice_known-in-loop-i-1.given (c.before.before.loop-i.i - 1))
+cast-tail c = omega (arith, c.shared_slice_known-in-loop-i-1.given (c.loop-i.i - 1))
 
 mul-reach : tie.Need-offset_bounds-costs-j invariant-loop decreases-loop
 mul-reach c = omega arith
@@ -69,10 +68,10 @@ shared-slice-read-reach : tie.Need-bounds-costs-j invariant-loop decreases-loop
 shared-slice-read-reach c = omega arith
 
 cast-reach : tie.Need-overflow_cast-reach invariant-loop decreases-loop
-cast-reach c = omega (arith, c.shared_slice_known-in-loop-i-2-1.given (c.before.before.before.loop-i.i - 1))
+cast-reach c = omega (arith, c.shared_slice_known-in-loop-i-2-1.given (c.loop-i.i - 1))
 
 add-reach : tie.Need-overflow_add-reach invariant-loop decreases-loop
-add-reach c = omega (arith, c.shared_slice_known-in-loop-i-2-1.given (c.before.before.before.loop-i.i - 1), c.before.before.before.before.before.before.requires.0.capped c.before.before.before.before.before.before.args.h)
+add-reach c = omega (arith, c.shared_slice_known-in-loop-i-2-1.given (c.loop-i.i - 1), c.requires.0.capped c.args.h)
 
 mul-if1 : tie.Need-offset_bounds-table-tail invariant-loop decreases-loop
 mul-if1 c = omega (arith, tail-below c.before.before)
@@ -93,30 +92,28 @@ shared-slice-read-i-2 : tie.Need-bounds-next-j invariant-loop decreases-loop
 shared-slice-read-i-2 c = omega arith
 
 cast-i-2 : tie.Need-overflow_cast-i-in-loop-i invariant-loop decreases-loop
-cast-i-2 c = omega (arith, c.shared_slice_known-in-loop-i-3-1.given (c.before.before.before.before.before.before.loop-i.i - 1))
+cast-i-2 c = omega (arith, c.shared_slice_known-in-loop-i-3-1.given (c.loop-i.i - 1))
 
 loop-less : tie.Need-loop-i-smaller invariant-loop decreases-loop
 loop-less c =
-    let a = c.before.before.before.before.before.before.before.before.before.args in
-    let j = c.before.before.before.before.before.before.loop-i.i - 1 in
+    let a = c.args in
+    let j = c.loop-i.i - 1 in
     omega (arith, chained c.before.before.before.before.before, last_le a.heads.now (at a.heads.now j) j)
 
 loop-again : tie.Need-loop-i-preserved invariant-loop decreases-loop
 loop-again c =
-    let s = c.before.before.before.before.before.before.before.before.before in
-    let l = c.before.before.before.before.before.before.loop-i in
+    let l = c.loop-i in
     let i : l.i ≡ suc (l.i - 1) = omega arith in
-    let here = subst (λ k. Lowering s.args.tails.now s.args.heads.now s.args.costs.now s.args.table.now s.args.h k l.table) i l.invariant in
-    rw (chained c.before.before.before.before.before) (⊎_elim (λ w. rw w.1 (lowering_lower _ _ _ _ _ s.requires.0 (l.i - 1) here w.0.taken))
-    (λ w. rw w.1 (lowering_keep _ _ _ _ _ s.requires.0 (l.i - 1) here w.0.left)) c.before.if-reach-table.branch)
+    let here = subst (λ k. Lowering c.args.tails.now c.args.heads.now c.args.costs.now c.args.table.now c.args.h k l.table) i l.invariant in
+    rw (chained c.before.before.before.before.before) (⊎_elim (λ w. rw w.1 (lowering_lower _ _ _ _ _ c.requires.0 (l.i - 1) here w.0.taken))
+    (λ w. rw w.1 (lowering_keep _ _ _ _ _ c.requires.0 (l.i - 1) here w.0.left)) c.if-reach-table.branch)
 
 same_length : tie.Need-shape_of-table invariant-loop decreases-loop
 same_length c = omega arith
 
 returns : tie.Need-returns invariant-loop decreases-loop
 returns c =
-    let s = c.before.before.before.before in
-    let l = c.before.loop-i in
+    let l = c.loop-i in
     lowering_all _ _ _ _ _ (rw c.loop-i-test.false at l.invariant)
 
 pub lower_spec : {M : Type 1} → statement M

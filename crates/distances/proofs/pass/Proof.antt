@@ -21,12 +21,12 @@ decreases-loop tails heads costs old new₀ changed₀ i₀ new changed i = leng
 
 -- the edge of a turn joins states of the table
 joins : (c : tie.In-loop-i invariant-loop decreases-loop) →
-    (get_or c.before.before.args.tails.now c.before.loop-i.i 0 < length c.before.before.args.old.now)
-    × (get_or c.before.before.args.heads.now c.before.loop-i.i 0 < length c.before.before.args.old.now)
+    (get_or c.args.tails.now c.loop-i.i 0 < length c.args.old.now)
+    × (get_or c.args.heads.now c.loop-i.i 0 < length c.args.old.now)
 joins c =
-    let a = c.before.before.args in
-    c.before.before.requires.0.within (edge_at a.tails.now a.heads.now a.costs.now c.before.loop-i.i)
-    (edge-at-mem a.tails.now a.heads.now a.costs.now c.before.loop-i.i (omega arith) (omega arith) (omega arith))
+    let a = c.args in
+    c.requires.0.within (edge_at a.tails.now a.heads.now a.costs.now c.loop-i.i)
+    (edge-at-mem a.tails.now a.heads.now a.costs.now c.loop-i.i (omega arith) (omega arith) (omega arith))
 
 loop-holds : tie.Need-loop-i-init invariant-loop decreases-loop
 loop-holds c = (omega arith, ap length c.requires.1, turn-none _ _ _ c.requires.1)
@@ -38,7 +38,7 @@ shared-slice-read-tail : tie.Need-bounds-tails-i invariant-loop decreases-loop
 shared-slice-read-tail c = omega arith
 
 cast-tail : tie.Need-overflow_cast-tail invariant-loop decreases-loop
-cast-tail c = omega (arith, c.shared_slice_known-1.given c.before.before.loop-i.i)
+cast-tail c = omega (arith, c.shared_slice_known-1.given c.loop-i.i)
 
 mul-head : tie.Need-offset_bounds-heads-i invariant-loop decreases-loop
 mul-head c = omega arith
@@ -47,7 +47,7 @@ shared-slice-read-head : tie.Need-bounds-heads-i invariant-loop decreases-loop
 shared-slice-read-head c = omega arith
 
 cast-head : tie.Need-overflow_cast-head invariant-loop decreases-loop
-cast-head c = omega (arith, c.shared_slice_known-in-loop-i-1.given c.before.before.before.loop-i.i)
+cast-head c = omega (arith, c.shared_slice_known-in-loop-i-1.given c.loop-i.i)
 
 mul-reach : tie.Need-offset_bounds-old-head invariant-loop decreases-loop
 mul-reach c = omega (arith, joins c.before.before)
@@ -62,12 +62,11 @@ shared-slice-read-reach-2 : tie.Need-bounds-costs-i invariant-loop decreases-loo
 shared-slice-read-reach-2 c = omega arith
 
 cast-reach : tie.Need-overflow_cast-reach invariant-loop decreases-loop
-cast-reach c = omega (arith, c.shared_slice_known-in-loop-i-3-1.given c.before.before.before.before.before.loop-i.i)
+cast-reach c = omega (arith, c.shared_slice_known-in-loop-i-3-1.given c.loop-i.i)
 
 add-reach : tie.Need-overflow_add-reach invariant-loop decreases-loop
 add-reach c =
-    let l = c.before.before.before.before.before in
-    omega (arith, c.shared_slice_known-in-loop-i-3-1.given l.loop-i.i, l.before.requires.0.capped (get_or l.before.args.heads.now l.loop-i.i 0))
+    omega (arith, c.shared_slice_known-in-loop-i-3-1.given c.loop-i.i, c.requires.0.capped (get_or c.args.heads.now c.loop-i.i 0))
 
 mul-if1 : tie.Need-offset_bounds-new-tail invariant-loop decreases-loop
 mul-if1 c = omega (arith, joins c.before.before.before.before)
@@ -89,23 +88,21 @@ loop-less c = omega arith
 
 loop-again : tie.Need-loop-i-preserved invariant-loop decreases-loop
 loop-again c =
-    let l = c.before.before.before.before.before.before.before in
-    let a = l.before.args in
+    let a = c.args in
     let es = edges a.tails.now a.heads.now a.costs.now in
-    let t : Turn es a.old.now (edge_at a.tails.now a.heads.now a.costs.now l.loop-i.i ∷ drop (l.loop-i.i + 1) es) l.loop-i.new l.loop-i.changed =
-    rw (add-one, ← drop-edges a.tails.now a.heads.now a.costs.now l.loop-i.i (omega arith) (omega arith) (omega arith)) l.loop-i.invariant.2 in
-    ⊎_elim (λ w. (omega arith, rw w.1 (simp length-set (omega arith)), rw (w.1, w.2) (turn_lower es a.old.now _ _ l.loop-i.new l.loop-i.changed w.0.taken t)))
-    (λ w. (omega arith, omega (arith, ap length w.1), rw (w.1, w.2) (turn_keep es a.old.now _ _ l.loop-i.new l.loop-i.changed w.0.left t)))
+    let t : Turn es a.old.now (edge_at a.tails.now a.heads.now a.costs.now c.loop-i.i ∷ drop (c.loop-i.i + 1) es) c.loop-i.new c.loop-i.changed =
+    rw (add-one, ← drop-edges a.tails.now a.heads.now a.costs.now c.loop-i.i (omega arith) (omega arith) (omega arith)) c.loop-i.invariant.2 in
+    ⊎_elim (λ w. (omega arith, rw w.1 (simp length-set (omega arith)), rw (w.1, w.2) (turn_lower es a.old.now _ _ c.loop-i.new c.loop-i.changed w.0.taken t)))
+    (λ w. (omega arith, omega (arith, ap length w.1), rw (w.1, w.2) (turn_keep es a.old.now _ _ c.loop-i.new c.loop-i.changed w.0.left t)))
     c.if-reach-new.branch
 
 same_length : tie.Need-shape_of-new invariant-loop decreases-loop
-same_length c = omega (arith, ap length c.before.before.requires.1)
+same_length c = omega (arith, ap length c.requires.1)
 
 returns : tie.Need-returns invariant-loop decreases-loop
 returns c =
-    let l = c.before in
-    let a = l.before.args in
-    turn-all _ _ _ _ (rw (drop_of_length-le (edges a.tails.now a.heads.now a.costs.now) {i = l.loop-i.i} (omega (arith, length-edges_le a.tails.now a.heads.now a.costs.now))) at l.loop-i.invariant.2)
+    let a = c.args in
+    turn-all _ _ _ _ (rw (drop_of_length-le (edges a.tails.now a.heads.now a.costs.now) {i = c.loop-i.i} (omega (arith, length-edges_le a.tails.now a.heads.now a.costs.now))) at c.loop-i.invariant.2)
 
 pub pass_spec : {M : Type 1} → statement M
 pass_spec =

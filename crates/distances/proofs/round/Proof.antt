@@ -18,7 +18,7 @@ abbrev decreases-loop : tie.decreases-loop-h
 decreases-loop tails heads costs first next table₀ seen₀ taken₀ h₀ table seen taken h = length table₀ - h
 
 loop-holds : tie.Need-loop-h-init invariant-loop decreases-loop
-loop-holds c = (omega arith, rounding_none _ _ _ c.before.before.before.before.before.before.before.requires.1.1.1)
+loop-holds c = (omega arith, rounding_none _ _ _ c.requires.1.1.1)
 
 mul-d : tie.Need-offset_bounds-table-h invariant-loop decreases-loop
 mul-d c = omega arith
@@ -40,9 +40,8 @@ slice-write-seen c = omega arith
 
 lower-requires : tie.Need-lower-requires invariant-loop decreases-loop
 lower-requires c κs =
-    let s = c.before.before.before.before.before.before.before.before.before.before.before.before.before in
-    let r = c.before.before.before.before.before.loop-h.invariant.1 in
-    (ready_lower s.requires.0 r.same_length r.not-raised, (s.requires.1.0, (s.requires.1.1.0 ∙ sym r.same_length, omega arith)))
+    let r = c.loop-h.invariant.1 in
+    (ready_lower c.requires.0 r.same_length r.not-raised, (c.requires.1.0, (c.requires.1.1.0 ∙ sym r.same_length, omega arith)))
 
 add-h : tie.Need-overflow_add-h invariant-loop decreases-loop
 add-h c = omega arith
@@ -52,7 +51,7 @@ loop-less c = omega arith
 
 loop-again : tie.Need-loop-h-preserved invariant-loop decreases-loop
 loop-again c =
-    let l = c.before.before.before.before.loop-h in
+    let l = c.loop-h in
     ⊎_elim (λ w. (omega arith, rw (w.5, w.6, w.7) (rounding_take _ _ _ l.invariant.1 w.0.taken w.2.ensures))) (λ w. (omega arith, rw (w.1, w.2, w.3) (rounding_skip _ _ _ l.invariant.1 w.0.left))) c.if-d-seen.branch
 
 same_length : tie.Need-shape_of-table invariant-loop decreases-loop
@@ -62,10 +61,10 @@ same-length-2 : tie.Need-shape_of-seen invariant-loop decreases-loop
 same-length-2 c = omega arith
 
 returns : tie.Need-returns invariant-loop decreases-loop
-returns c = rounding_all _ _ _ c.before.loop-h.invariant.1 c.loop-h-test.false
+returns c = rounding_all _ _ _ c.loop-h.invariant.1 c.loop-h-test.false
 
-pub round-spec : {M : Type 1} → statement M
-round-spec =
+pub round_spec : {M : Type 1} → statement M
+round_spec =
     tie.close
     (tie.spec
     invariant-loop

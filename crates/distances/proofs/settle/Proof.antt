@@ -15,23 +15,21 @@ decreases-loop tails heads costs first next table₀ seen₀ table seen = sum se
 
 loop-holds : tie.Need-loop-init invariant-loop decreases-loop
 loop-holds c =
-    let s = c.before.before.before.before.before.before.before in
-    progress-none _ _ _ s.requires.1.1.1.0 (λ e m. omega (arith, s.requires.0.capped e.tail, s.requires.1.1.1.1 e.head (omega (arith, s.requires.0.within e m))))
+    progress-none _ _ _ c.requires.1.1.1.0 (λ e m. omega (arith, c.requires.0.capped e.tail, c.requires.1.1.1.1 e.head (omega (arith, c.requires.0.within e m))))
 
 round-requires : tie.Need-round-requires invariant-loop decreases-loop
 round-requires c κs =
-    let s = c.before.before.before.before.before.before.before.before.before.before in
-    let p = c.before.before.loop.invariant in
-    (ready_lower s.requires.0 p.same_length p.not-raised, (s.requires.1.0, (s.requires.1.1.0 ∙ sym p.same_length, p.seen_length ∙ sym p.same_length)))
+    let p = c.loop.invariant in
+    (ready_lower c.requires.0 p.same_length p.not-raised, (c.requires.1.0, (c.requires.1.1.0 ∙ sym p.same_length, p.seen_length ∙ sym p.same_length)))
 
 -- a round goes on from the first table
 after : (c : tie.After-round invariant-loop decreases-loop) →
-    let a = c.before.before.before.before.before.before.before.before.before.before.before.args in
-    Progress (edges a.tails.now a.heads.now a.costs.now) a.table-1.now c.round.new.1.1.1.1.1.0 c.round.new.1.1.1.1.1.1.0
-after c = c.round.ensures.progress _ c.before.before.before.loop.invariant
+    let a = c.args in
+    Progress (edges a.tails.now a.heads.now a.costs.now) a.table.now c.round.new.1.1.1.1.1.0 c.round.new.1.1.1.1.1.1.0
+after c = c.round.ensures.progress _ c.loop.invariant
 
 loop-less : tie.Need-loop-smaller invariant-loop decreases-loop
-loop-less c = c.before.before.before.before.before.round.ensures.falls c.loop-test.true
+loop-less c = c.round.ensures.falls c.loop-test.true
 
 loop-again : tie.Need-loop-preserved invariant-loop decreases-loop
 loop-again c = after c.before.before.before.before.before
@@ -40,13 +38,13 @@ same_length : tie.Need-shape_of-table invariant-loop decreases-loop
 same_length c = (after c.before.before.before.before.before).same_length
 
 same-length-2 : tie.Need-shape_of-seen invariant-loop decreases-loop
-same-length-2 c = (after c.before.before.before.before.before).seen_length ∙ sym c.before.before.before.before.before.before.before.before.before.before.before.before.before.before.before.before.requires.1.1.1.0
+same-length-2 c = (after c.before.before.before.before.before).seen_length ∙ sym c.requires.1.1.1.0
 
 returns : tie.Need-returns invariant-loop decreases-loop
-returns c = progress-done _ _ _ _ c.before.before.before.before.before.before.before.before.before.before.before.before.before.before.before.before.requires.0.within (after c.before.before.before.before.before) (c.before.before.before.before.before.round.ensures.none_left c.loop-test.false)
+returns c = progress-done _ _ _ _ c.requires.0.within (after c.before.before.before.before.before) (c.round.ensures.none_left c.loop-test.false)
 
-pub settle-spec : {M : Type 1} → statement M
-settle-spec =
+pub settle_spec : {M : Type 1} → statement M
+settle_spec =
     tie.close
     (tie.spec
     invariant-loop

@@ -9,68 +9,66 @@ use borrow.Author.Rules.{rules}
 use Rattle.end_search.proofs.search_ends_in.Statement.{statement}
 use Rattle.end_search.proofs.search_ends_in.Tie as tie
 
-abbrev start_of : tie.After-measure → tie.Start
+abbrev start_of : tie.After-measure-states → tie.Start
 start_of c = c.before.before.before.before.before.before.before.before.before.before.before.before.before.before.before.before.before.before.before.before.before.before.before
 
-measure-requires : tie.Need-measure-requires
-measure-requires c κs = let s = c.before.before.before.before.before.before.before.before.before.before.before.before.before.before.before.before.before.before.before.before.before.before in (s.requires.0, (s.requires.1.0, s.requires.1.1.1))
+measure-requires : tie.Need-measure-states-requires
+measure-requires c κs = (c.requires.0, (c.requires.1.0, c.requires.1.1.1))
 
-slice-reshare-prefix-fill-ends : tie.Need-slice-reshare-prefix-fill-ends
+slice-reshare-prefix-fill-ends : tie.Need-slice_bounds-fill_ends-end
 slice-reshare-prefix-fill-ends c = search rules
 
-slice-aggregate-fill-ends : tie.Need-slice-aggregate-fill-ends
-slice-aggregate-fill-ends c = sym (length-take-le _ _ c.before.before.before.before.before.before.before.before.before.before.before.before.before.before.before.before.before.before.before.before.before.before.measure.ensures.0)
+slice-aggregate-fill-ends : tie.Need-slice_bounds-fill_ends-end-2
+slice-aggregate-fill-ends c = sym (length-take-le _ _ c.measure-states.ensures.0)
 
-fill-ends-requires : tie.Need-fill-ends-requires
+fill-ends-requires : tie.Need-fill_ends-requires
 fill-ends-requires c κs =
-    let m = c.before.before.before.before.before.before.before.before.before.before.before.before.before.before.before.before.before.before.before.before.before.before.before in
-    let s = start_of m in
+    let s = start_of c.before.before.before.before.before.before.before.before.before.before.before.before.before.before.before.before.before.before.before.before.before in
     let given = s.pre.0 in
     let (g, count-is, weighed) = s.pre.1.0 in
-    (measured_standing (m.measure.ensures.1 g given.paths count-is weighed given.spells given.bounded), s.pre.1.1.0.1)
+    (measured_standing (c.measure-states.ensures.1 g given.paths count-is weighed given.spells given.bounded), s.pre.1.1.0.1)
 
-same_length : tie.Need-same-length
-same_length c = c.before.before.fill-ends.auto.1.1.1.0
+same_length : tie.Need-shape_of-table
+same_length c = c.fill_ends.auto.1.1.1.0
 
-same-length-2 : tie.Need-same-length-2
-same-length-2 c = c.before.before.before.before.before.before.before.before.before.before.before.before.before.before.before.before.before.before.before.before.before.before.before.before.before.before.measure.auto.1.1.1.1.1.1.0
+same-length-2 : tie.Need-shape_of-steps
+same-length-2 c = c.measure-states.auto.1.1.1.1.1.1.0
 
-same-length-3 : tie.Need-same-length-3
-same-length-3 c = c.before.before.before.before.before.before.before.before.before.before.before.before.before.before.before.before.before.before.before.before.before.before.before.before.before.before.measure.auto.1.1.1.1.1.1.1.0
+same-length-3 : tie.Need-shape_of-blocked
+same-length-3 c = c.measure-states.auto.1.1.1.1.1.1.1.0
 
-same-length-4 : tie.Need-same-length-4
-same-length-4 c = c.before.before.before.before.before.before.before.before.before.before.before.before.before.before.before.before.before.before.before.before.before.before.before.before.before.before.measure.auto.1.1.1.1.1.1.1.1.0
+same-length-4 : tie.Need-shape_of-latest
+same-length-4 c = c.measure-states.auto.1.1.1.1.1.1.1.1.0
 
-same-length-5 : tie.Need-same-length-5
-same-length-5 c = c.before.before.before.before.before.before.before.before.before.before.before.before.before.before.before.before.before.before.before.before.before.before.before.before.before.before.measure.auto.1.1.1.1.1.1.1.1.1.0
+same-length-5 : tie.Need-shape_of-tails
+same-length-5 c = c.measure-states.auto.1.1.1.1.1.1.1.1.1.0
 
-same-length-6 : tie.Need-same-length-6
-same-length-6 c = c.before.before.before.before.before.before.before.before.before.before.before.before.before.before.before.before.before.before.before.before.before.before.before.before.before.before.measure.auto.1.1.1.1.1.1.1.1.1.1.0
+same-length-6 : tie.Need-shape_of-heads
+same-length-6 c = c.measure-states.auto.1.1.1.1.1.1.1.1.1.1.0
 
-same-length-7 : tie.Need-same-length-7
-same-length-7 c = c.before.before.before.before.before.before.before.before.before.before.before.before.before.before.before.before.before.before.before.before.before.before.before.before.before.before.measure.auto.1.1.1.1.1.1.1.1.1.1.1.0
+same-length-7 : tie.Need-shape_of-costs
+same-length-7 c = c.measure-states.auto.1.1.1.1.1.1.1.1.1.1.1.0
 
-same-length-8 : tie.Need-same-length-8
-same-length-8 c = c.before.before.before.before.before.before.before.before.before.before.before.before.before.before.before.before.before.before.before.before.before.before.before.before.before.before.measure.auto.1.1.1.1.1.1.1.1.1.1.1.1.0
+same-length-8 : tie.Need-shape_of-first
+same-length-8 c = c.measure-states.auto.1.1.1.1.1.1.1.1.1.1.1.1.0
 
-same-length-9 : tie.Need-same-length-9
-same-length-9 c = c.before.before.before.before.before.before.before.before.before.before.before.before.before.before.before.before.before.before.before.before.before.before.before.before.before.before.measure.auto.1.1.1.1.1.1.1.1.1.1.1.1.1.0
+same-length-9 : tie.Need-shape_of-next
+same-length-9 c = c.measure-states.auto.1.1.1.1.1.1.1.1.1.1.1.1.1.0
 
-same-length-10 : tie.Need-same-length-10
-same-length-10 c = c.before.before.before.before.before.before.before.before.before.before.before.before.before.before.before.before.before.before.before.before.before.before.before.before.before.before.measure.auto.1.1.1.1.1.1.1.1.1.1.1.1.1.1.0
+same-length-10 : tie.Need-shape_of-seen
+same-length-10 c = c.measure-states.auto.1.1.1.1.1.1.1.1.1.1.1.1.1.1.0
 
-same-length-11 : tie.Need-same-length-11
-same-length-11 c = c.before.before.before.before.before.before.before.before.before.before.before.before.before.before.before.before.before.before.before.before.before.before.before.before.before.before.measure.auto.1.1.1.1.1.1.1.1.1.1.1.1.1.1.1.0
+same-length-11 : tie.Need-shape_of-distances
+same-length-11 c = c.measure-states.auto.1.1.1.1.1.1.1.1.1.1.1.1.1.1.1.0
 
 returns : tie.Need-returns
 returns c g F count-is weighed spells bounded =
-    let m = c.before.before.before.before.before.before.before.before.before.before.before.before.before.before.before.before.before.before.before.before.before.before.before.before.before.before in
-    let s = start_of m in
-    c.before.before.fill-ends.ensures
-    ∙ ap (λ l. l ++ drop (2 * s.args.vertices) s.args.table.now) (measured_ends (m.measure.ensures.1 g F count-is weighed spells bounded) bounded s.pre.1.1.0.0)
+    let s = start_of c.before.before.before.before.before.before.before.before.before.before.before.before.before.before.before.before.before.before.before.before.before.before.before.before in
+    c.fill_ends.ensures
+    ∙ ap (λ l. l ++ drop (2 * s.args.vertices) s.args.table.now) (measured_ends (c.measure-states.ensures.1 g F count-is weighed spells bounded) bounded s.pre.1.1.0.0)
 
-pub search-ends-in-spec : {M : Type 1} → statement M
-search-ends-in-spec =
+pub search_ends_in_spec : {M : Type 1} → statement M
+search_ends_in_spec =
     tie.close
     (tie.spec
     measure-requires

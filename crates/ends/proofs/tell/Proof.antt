@@ -12,84 +12,82 @@ use Rattle.ends.proofs.Telling.{Telling, telling_none, telling_length, telling_n
 use Rattle.ends.proofs.tell.Statement.{statement}
 use Rattle.ends.proofs.tell.Tie as tie
 
-abbrev invariant-loop : tie.invariant-loop
+abbrev invariant-loop : tie.invariant-loop-v
 invariant-loop n least ends₀ v₀ ends v = (v ≤ n) × Telling (at least) ends₀ v ends
 
-abbrev decreases-loop : tie.decreases-loop
+abbrev decreases-loop : tie.decreases-loop-v
 decreases-loop n least ends₀ v₀ ends v = n - v
 
-loop-holds : tie.Need-loop-init invariant-loop decreases-loop
+loop-holds : tie.Need-loop-v-init invariant-loop decreases-loop
 loop-holds c = (omega arith, telling_none _ _)
 
-mul-d : tie.Need-overflow-mul-d invariant-loop decreases-loop
+mul-d : tie.Need-offset_bounds-least-v invariant-loop decreases-loop
 mul-d c = omega arith
 
-element-copy-out-d : tie.Need-element-copy-out-d invariant-loop decreases-loop
+element-copy-out-d : tie.Need-bounds-least-v invariant-loop decreases-loop
 element-copy-out-d c = omega arith
 
-cast-weight : tie.Need-overflow-cast-weight invariant-loop decreases-loop
+cast-weight : tie.Need-overflow_cast-weight invariant-loop decreases-loop
 cast-weight c = omega arith
 
-div-weight : tie.Need-nonzero-div-weight invariant-loop decreases-loop
+div-weight : tie.Need-nonzero_div-weight invariant-loop decreases-loop
 div-weight c = omega arith
 
-cast-weight-2 : tie.Need-overflow-cast-weight-2 invariant-loop decreases-loop
+cast-weight-2 : tie.Need-overflow_cast-weight-then-d-lt-INF invariant-loop decreases-loop
 cast-weight-2 c = omega arith
 
-cast-hops : tie.Need-overflow-cast-hops invariant-loop decreases-loop
+cast-hops : tie.Need-overflow_cast-hops invariant-loop decreases-loop
 cast-hops c = omega arith
 
-rem-hops : tie.Need-nonzero-rem-hops invariant-loop decreases-loop
+rem-hops : tie.Need-nonzero_rem-hops invariant-loop decreases-loop
 rem-hops c = omega arith
 
-cast-hops-2 : tie.Need-overflow-cast-hops-2 invariant-loop decreases-loop
+cast-hops-2 : tie.Need-overflow_cast-hops-then-d-lt-INF invariant-loop decreases-loop
 cast-hops-2 c = omega arith
 
-mul-ends : tie.Need-overflow-mul-ends invariant-loop decreases-loop
+mul-ends : tie.Need-overflow_mul-ends invariant-loop decreases-loop
 mul-ends c = omega arith
 
-mul-ends-2 : tie.Need-overflow-mul-ends-2 invariant-loop decreases-loop
+mul-ends-2 : tie.Need-offset_bounds-ends-v invariant-loop decreases-loop
 mul-ends-2 c = omega arith
 
-slice-write-ends : tie.Need-slice-write-ends invariant-loop decreases-loop
-slice-write-ends c = omega (arith, telling_length _ _ c.before.before.before.loop.invariant.1)
+slice-write-ends : tie.Need-bounds-ends-v invariant-loop decreases-loop
+slice-write-ends c = omega (arith, telling_length _ _ c.loop-v.invariant.1)
 
-mul-ends-3 : tie.Need-overflow-mul-ends-3 invariant-loop decreases-loop
+mul-ends-3 : tie.Need-overflow_mul-ends-in-loop-v invariant-loop decreases-loop
 mul-ends-3 c = omega arith
 
-add-ends : tie.Need-overflow-add-ends invariant-loop decreases-loop
+add-ends : tie.Need-overflow_add-ends invariant-loop decreases-loop
 add-ends c = omega arith
 
-mul-ends-4 : tie.Need-overflow-mul-ends-4 invariant-loop decreases-loop
+mul-ends-4 : tie.Need-offset_bounds-ends-v-in-loop-v invariant-loop decreases-loop
 mul-ends-4 c = omega arith
 
-slice-write-ends-2 : tie.Need-slice-write-ends-2 invariant-loop decreases-loop
-slice-write-ends-2 c = simp length-set (omega (arith, telling_length _ _ c.before.before.before.loop.invariant.1))
+slice-write-ends-2 : tie.Need-bounds-ends-v-in-loop-v invariant-loop decreases-loop
+slice-write-ends-2 c = simp length-set (omega (arith, telling_length _ _ c.loop-v.invariant.1))
 
-add-v : tie.Need-overflow-add-v invariant-loop decreases-loop
+add-v : tie.Need-overflow_add-v invariant-loop decreases-loop
 add-v c = omega arith
 
-loop-less : tie.Need-loop-smaller invariant-loop decreases-loop
+loop-less : tie.Need-loop-v-smaller invariant-loop decreases-loop
 loop-less c = omega arith
 
-loop-again : tie.Need-loop-preserved invariant-loop decreases-loop
+loop-again : tie.Need-loop-v-preserved invariant-loop decreases-loop
 loop-again c =
-    let l = c.before.before.before in
-    let d = at l.before.args.least.now l.loop.v in
-    let told_is : c.if1.weight ∷ c.if1.hops ∷ [] ≡ told d = ⊎_elim (λ w. rw (w.1, w.2, lt-ltb d inf w.0.taken)) (λ w. rw (w.1, w.2, le-ltb d inf w.0.left)) c.if1.branch in
-    (omega arith, telling_next _ _ l.loop.invariant.1 c.if1.weight c.if1.hops told_is (omega arith))
+    let d = at c.args.least.now c.loop-v.v in
+    let told_is : c.if-d-lt-INF.weight ∷ c.if-d-lt-INF.hops ∷ [] ≡ told d = ⊎_elim (λ w. rw (w.1, w.2, lt-ltb d inf w.0.taken)) (λ w. rw (w.1, w.2, le-ltb d inf w.0.left)) c.if-d-lt-INF.branch in
+    (omega arith, telling_next _ _ c.loop-v.invariant.1 c.if-d-lt-INF.weight c.if-d-lt-INF.hops told_is (omega arith))
 
-same_length : tie.Need-same-length invariant-loop decreases-loop
-same_length c = telling_length _ _ c.before.loop.invariant.1
+same_length : tie.Need-shape_of-ends invariant-loop decreases-loop
+same_length c = telling_length _ _ c.loop-v.invariant.1
 
 returns : tie.Need-returns invariant-loop decreases-loop
 returns c =
-    let l = c.before in
-    let end : l.loop.v ≡ l.before.args.n = omega arith in
-    rw end at l.loop.invariant.1.ends_are
+    let end : c.loop-v.v ≡ c.args.n = omega arith in
+    rw end at c.loop-v.invariant.1.ends_are
 
-pub tell-spec : {M : Type 1} → statement M
-tell-spec =
+pub tell_spec : {M : Type 1} → statement M
+tell_spec =
     tie.close
     (tie.spec
     invariant-loop

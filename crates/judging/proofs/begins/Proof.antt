@@ -9,62 +9,60 @@ use borrow.Author.Rules.{rules}
 use Rattle.judging.proofs.begins.Statement.{statement}
 use Rattle.judging.proofs.begins.Tie as tie
 
-abbrev invariant-loop : tie.invariant-loop
+abbrev invariant-loop : tie.invariant-loop-i
 invariant-loop walk at path n i₀ i = (i ≤ length path) × (is_prefix (drop i path) (drop (at + i) walk) ≡ is_prefix path (drop at walk))
 
-abbrev decreases-loop : tie.decreases-loop
+abbrev decreases-loop : tie.decreases-loop-i
 decreases-loop walk at path n i₀ i = length path - i
 
-sub-if1 : tie.Need-overflow-sub-if1 invariant-loop decreases-loop
+sub-if1 : tie.Need-overflow_sub-walk invariant-loop decreases-loop
 sub-if1 c = search rules
 
-returns : tie.Need-returns invariant-loop decreases-loop
+returns : tie.Need-returns-then-walk-at invariant-loop decreases-loop
 returns c =
-    let a = c.before.args in
-    sym (prefix-short a.path.now (drop a.at a.walk.now) (omega (arith, length-drop a.at a.walk.now, c.if1.true)))
+    let a = c.args in
+    sym (prefix-short a.path.now (drop a.at a.walk.now) (omega (arith, length-drop a.at a.walk.now, c.if-walk-at.true)))
 
-loop-holds : tie.Need-loop-init invariant-loop decreases-loop
+loop-holds : tie.Need-loop-i-init invariant-loop decreases-loop
 loop-holds c =
-    let a = c.before.args in
+    let a = c.args in
     let here : a.at + 0 ≡ a.at = omega arith in
     (omega arith, ap (λ n. is_prefix a.path.now (drop n a.walk.now)) here)
 
-shared-slice-read-if2 : tie.Need-shared-slice-read-if2 invariant-loop decreases-loop
+shared-slice-read-if2 : tie.Need-bounds-path-i invariant-loop decreases-loop
 shared-slice-read-if2 c = search rules
 
-add-if2 : tie.Need-overflow-add-if2 invariant-loop decreases-loop
+add-if2 : tie.Need-overflow_add-at invariant-loop decreases-loop
 add-if2 c = search rules
 
-shared-slice-read-if2-2 : tie.Need-shared-slice-read-if2-2 invariant-loop decreases-loop
+shared-slice-read-if2-2 : tie.Need-bounds-walk-at invariant-loop decreases-loop
 shared-slice-read-if2-2 c = search rules
 
-returns-2 : tie.Need-returns-2 invariant-loop decreases-loop
+returns-2 : tie.Need-returns-then-path-i invariant-loop decreases-loop
 returns-2 c =
-    let at-loop = c.before.before.before.before in
-    let a = at-loop.before.before.args in
-    sym (prefix-differ a.path.now a.walk.now a.at at-loop.loop.i (omega arith) (omega arith) c.if2.true) ∙ at-loop.loop.invariant.1
+    let a = c.args in
+    sym (prefix-differ a.path.now a.walk.now a.at c.loop-i.i (omega arith) (omega arith) c.if-path-i.true) ∙ c.loop-i.invariant.1
 
-add-i : tie.Need-overflow-add-i invariant-loop decreases-loop
+add-i : tie.Need-overflow_add-i invariant-loop decreases-loop
 add-i c = search rules
 
-loop-less : tie.Need-loop-smaller invariant-loop decreases-loop
+loop-less : tie.Need-loop-i-smaller invariant-loop decreases-loop
 loop-less c = search rules
 
-loop-again : tie.Need-loop-preserved invariant-loop decreases-loop
+loop-again : tie.Need-loop-i-preserved invariant-loop decreases-loop
 loop-again c =
-    let at-loop = c.before.before.before.before in
-    let a = at-loop.before.before.args in (
+    let a = c.args in (
       omega arith,
-      sym (prefix-next a.path.now a.walk.now a.at at-loop.loop.i (omega arith) (omega arith) c.if2.false) ∙ at-loop.loop.invariant.1,
+      sym (prefix-next a.path.now a.walk.now a.at c.loop-i.i (omega arith) (omega arith) c.if-path-i.false) ∙ c.loop-i.invariant.1,
     )
 
-returns-3 : tie.Need-returns-3 invariant-loop decreases-loop
+returns-3 : tie.Need-returns invariant-loop decreases-loop
 returns-3 c =
-    let a = c.before.before.before.args in
-    sym (prefix_past a.path.now a.walk.now a.at c.before.loop.i c.loop-test.false) ∙ c.before.loop.invariant.1
+    let a = c.args in
+    sym (prefix_past a.path.now a.walk.now a.at c.loop-i.i c.loop-i-test.false) ∙ c.loop-i.invariant.1
 
-pub begins-spec : {M : Type 1} → statement M
-begins-spec =
+pub begins_spec : {M : Type 1} → statement M
+begins_spec =
     tie.close
     (tie.spec
     invariant-loop

@@ -10,26 +10,30 @@ use Rattle.judging.proofs.is_named.Statement.{statement}
 use Rattle.judging.proofs.is_named.Tie as tie
 
 -- what the test of the path says
-tested : (c : tie.After-is-path) (x : Bool) → c.is-path.result ≡ x → let a = c.before.before.before.args in is_path a.vertices a.named.now ≡ x
+tested : (c : tie.After-is_path) (x : Bool) → c.is_path.result ≡ x → let a = c.args in is_path a.vertices a.named.now ≡ x
 tested c x e =
-    let a = c.before.before.before.args in
-    sym (ap (is_path a.vertices) (take-length a.named.now)) ∙ sym c.is-path.ensures ∙ e
+    let a = c.args in
+    sym (ap (is_path a.vertices) (take-length a.named.now)) ∙ sym c.is_path.ensures ∙ e
 
-is-path-requires : tie.Need-is-path-requires
+is-path-requires : tie.Need-is_path-requires
 is-path-requires c κs = search rules
 
-returns : tie.Need-returns
+returns : tie.Need-returns-then-not-is_path
 returns c =
-    let a = c.before.before.before.before.args in
-    sym (ap (λ x. x && occurs a.named.now a.walk.now) (tested c.before false (not-true c.before.is-path.result c.if1.true)))
+    let a = c.args in
+    sym (ap (λ x. x && occurs a.named.now a.walk.now) (tested c.before false (not-true c.is_path.result c.if-not-is_path.true-raw)))
 
 occurs-requires : tie.Need-occurs-requires
 occurs-requires c κs = search rules
 
-returns-2 : tie.Need-returns-2
+returns-2 : tie.Need-returns
 returns-2 c =
-    let a = c.before.before.before.before.before.args in
-    c.occurs.ensures ∙ sym (ap (λ x. x && occurs a.named.now a.walk.now) (tested c.before.before true (not-false c.before.before.is-path.result c.before.if1.false)))
+    let a = c.args in
+    c.occurs.ensures ∙ sym (ap (λ x. x && occurs a.named.now a.walk.now) (tested c.before.before true (not-false c.is_path.result c.if-not-is_path.false-raw)))
 
-pub is-named-spec : {M : Type 1} → statement M
-is-named-spec = tie.close (tie.spec is-path-requires returns occurs-requires returns-2)
+pub is_named_spec : {M : Type 1} → statement M
+is_named_spec = tie.close (tie.spec
+    is-path-requires
+    returns
+    occurs-requires
+    returns-2)

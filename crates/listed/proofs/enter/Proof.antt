@@ -8,28 +8,27 @@ use Rattle.listed.specs.StandingLaws.{item_stands}
 use Rattle.listed.proofs.enter.Statement.{statement}
 use Rattle.listed.proofs.enter.Tie as tie
 
-wide-requires : tie.Need-wide-requires
+wide-requires : tie.Need-wide-tail-requires
 wide-requires c κs = search rules
 
-wide-requires-2 : tie.Need-wide-requires-2
+wide-requires-2 : tie.Need-wide-head-requires
 wide-requires-2 c κs = search rules
 
-cast-enter-arc : tie.Need-overflow-cast-enter-arc
+cast-enter-arc : tie.Need-overflow_cast-arc
 cast-enter-arc c = search rules
 
-enter-arc-requires : tie.Need-enter-arc-requires
-enter-arc-requires c κs = let (b, h) = c.before.before.before.before.requires in omega (arith, h.vertices_are, h.well.few-vertices)
+enter-arc-requires : tie.Need-enter_arc-requires
+enter-arc-requires c κs = let (b, h) = c.requires in omega (arith, h.vertices_are, h.well.few-vertices)
 
 -- the arc as the code has it is the item's
-arc-is : (c : tie.After-wide2) → let a = c.before.before.args in
-    ◌≡◌ {A = Arc} (record { tail = c.before.wide.result; head = c.wide2.result; weight = a.arc.weight }) (arc_of a.arc)
-arc-is c = λ k. record { tail = c.before.wide.ensures.0 k; head = c.wide2.ensures.0 k; weight = c.before.before.args.arc.weight }
+arc-is : (c : tie.After-wide-head) → let a = c.args in
+    ◌≡◌ {A = Arc} (record { tail = c.wide-tail.result; head = c.wide-head.result; weight = a.arc.weight }) (arc_of a.arc)
+arc-is c = λ k. record { tail = c.wide-tail.ensures.0 k; head = c.wide-head.ensures.0 k; weight = c.args.arc.weight }
 
 returns : tie.Need-returns
 returns c b h =
-    let here = c.before.before.before in
-    let a = here.before.before.args in
-    item_stands a.vertices b a.weights.now h a.i (arc_of a.arc) _ (arc-is here) _ _ (c.enter-arc.ensures b h)
+    let a = c.args in
+    item_stands a.vertices b a.weights.now h a.i (arc_of a.arc) _ (arc-is c.before.before.before) _ _ (c.enter_arc.ensures b h)
 
 pub enter_spec : {M : Type 1} → statement M
 enter_spec =

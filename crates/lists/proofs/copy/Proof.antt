@@ -16,9 +16,9 @@ abbrev decreases-loop : tie.decreases-loop-i
 decreases-loop src from dst₀ to n i₀ dst i = n - i
 
 -- the bytes that are written to are as many as ever
-kept : (c : tie.At-loop-i invariant-loop decreases-loop) → length c.loop-i.dst ≡ length c.before.args.dst.now
+kept : (c : tie.At-loop-i invariant-loop decreases-loop) → length c.loop-i.dst ≡ length c.args.dst.now
 kept c =
-    let a = c.before.args in
+    let a = c.args in
     ap length c.loop-i.invariant.1 ∙ paste-kept a.src.now a.dst.now a.from a.to a.n (omega arith) (omega arith) c.loop-i.i (omega arith)
 
 loop-holds : tie.Need-loop-i-init invariant-loop decreases-loop
@@ -46,11 +46,10 @@ loop-less c = search rules
 
 loop-again : tie.Need-loop-i-preserved invariant-loop decreases-loop
 loop-again c =
-    let at-loop = c.before.before in
-    let a = at-loop.before.args in (
+    let a = c.args in (
       omega arith,
-      ap (λ d. set d (a.to + at-loop.loop-i.i) (get_or a.src.now (a.from + at-loop.loop-i.i) 0)) at-loop.loop-i.invariant.1
-          ∙ paste-next a.src.now a.dst.now a.from a.to a.n (omega arith) (omega arith) at-loop.loop-i.i (omega arith),
+      ap (λ d. set d (a.to + c.loop-i.i) (get_or a.src.now (a.from + c.loop-i.i) 0)) c.loop-i.invariant.1
+          ∙ paste-next a.src.now a.dst.now a.from a.to a.n (omega arith) (omega arith) c.loop-i.i (omega arith),
     )
 
 same_length : tie.Need-shape_of-dst invariant-loop decreases-loop
@@ -58,9 +57,9 @@ same_length c = kept c.before
 
 returns : tie.Need-returns invariant-loop decreases-loop
 returns c =
-    let a = c.before.before.args in
-    let done : c.before.loop-i.i ≡ a.n = omega arith in
-    c.before.loop-i.invariant.1 ∙ ap (paste a.dst.now a.to (drop a.from a.src.now)) done
+    let a = c.args in
+    let done : c.loop-i.i ≡ a.n = omega arith in
+    c.loop-i.invariant.1 ∙ ap (paste a.dst.now a.to (drop a.from a.src.now)) done
 
 pub copy_spec : {M : Type 1} → statement M
 copy_spec =

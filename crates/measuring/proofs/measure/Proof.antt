@@ -14,17 +14,17 @@ use borrow.Author.Rules.{rules}
 use Rattle.measuring.proofs.measure.Statement.{statement}
 use Rattle.measuring.proofs.measure.Tie as tie
 
-abbrev start_of : tie.After-build → tie.Start
+abbrev start_of : tie.After-build-states → tie.Start
 start_of c = c.before.before.before.before.before.before.before.before.before.before.before.before.before.before.before.before
 
 -- the tables that were built
-built : (c : tie.After-build)
+built : (c : tie.After-build-states)
     → let start = start_of c in
-    Built start.pre.0.paths start.args.vertices c.build.result c.build.new.1.1.1.0 c.build.new.1.1.1.1.0 c.build.new.1.1.1.1.1.0
-built c = let g = (start_of c).requires.0 in c.build.ensures g.paths g.spells g.bounded
+    Built start.pre.0.paths start.args.vertices c.build-states.result c.build-states.new.1.1.1.0 c.build-states.new.1.1.1.1.0 c.build-states.new.1.1.1.1.1.0
+built c = let g = (start_of c).requires.0 in c.build-states.ensures g.paths g.spells g.bounded
 
 -- the distances that were worked out
-abbrev build-of : tie.After-distances → tie.After-build
+abbrev build-of : tie.After-distances → tie.After-build-states
 build-of c = c.before.before.before.before.before.before.before.before.before.before.before.before.before.before.before.before.before.before.before
 
 abbrev distances : tie.After-distances → List ℕ
@@ -40,74 +40,69 @@ measured c g F count-is weighed spells bounded =
     let s = start_of b in
     back_measured spells (b.build.ensures F spells bounded) s.args.table.now s.pre.1.1.entries (distances c) c.distances.auto.1.1.1.1.1.1.1.1.1.1.1.1.1.0 count-is weighed s.args.towards s.args.vertex c.distances.ensures
 
-build-requires : tie.Need-build-requires
+build-requires : tie.Need-build-states-requires
 build-requires c κs = search rules
 
-slice-relend-prefix-distances : tie.Need-slice-relend-prefix-distances
+slice-relend-prefix-distances : tie.Need-slice_bounds-distances-end
 slice-relend-prefix-distances c =
-    let b = c.before.before.before.before.before.before.before.before.before.before.before.before.before.before.before.before.before in
-    let s = start_of b in
-    omega (arith, built-counted s.pre.0.spells (built b), s.pre.1.1.entries)
+    let s = start_of c.before.before.before.before.before.before.before.before.before.before.before.before.before.before in
+    omega (arith, built-counted s.pre.0.spells (built c.before.before.before.before.before.before.before.before.before.before.before.before.before.before), s.pre.1.1.entries)
 
-slice-aggregate-distances : tie.Need-slice-aggregate-distances
+slice-aggregate-distances : tie.Need-slice_bounds-distances-end-2
 slice-aggregate-distances c =
-    let b = c.before.before.before.before.before.before.before.before.before.before.before.before.before.before.before.before.before.before in
-    let s = start_of b in
-    sym (front_length s.pre.0.spells (built b) s.args.table.now s.pre.1.1.entries)
+    let s = start_of c.before.before.before.before.before.before.before.before.before.before.before.before.before.before.before in
+    sym (front_length s.pre.0.spells (built c.before.before.before.before.before.before.before.before.before.before.before.before.before.before.before) s.args.table.now s.pre.1.1.entries)
 
 distances-requires : tie.Need-distances-requires
 distances-requires c κs =
-    let b = c.before.before.before.before.before.before.before.before.before.before.before.before.before.before.before.before.before.before in
-    let s = start_of b in
+    let s = start_of c.before.before.before.before.before.before.before.before.before.before.before.before.before.before.before in
     let spells = s.pre.0.spells in
     let (g, count-is, weighed) = s.pre.1.0 in
-    let p = front-prepared spells (built b) s.args.table.now s.pre.1.1.entries count-is weighed in
-    (prepared-fits p, (p.built.few, front-edges spells (built b) s.args.table.now s.pre.1.1.entries s.pre.1.1.edges b.build.auto.1.1.1.1.1.1.0))
+    let p = front-prepared spells (built c.before.before.before.before.before.before.before.before.before.before.before.before.before.before.before) s.args.table.now s.pre.1.1.entries count-is weighed in
+    (prepared-fits p, (p.built.few, front-edges spells (built c.before.before.before.before.before.before.before.before.before.before.before.before.before.before.before) s.args.table.now s.pre.1.1.entries s.pre.1.1.edges c.build-states.auto.1.1.1.1.1.1.0))
 
-same_length : tie.Need-same-length
-same_length c = c.before.before.before.before.before.before.before.before.before.before.before.before.before.before.before.before.before.before.before.before.before.before.before.before.before.before.before.before.before.before.before.before.before.build.auto.1.1.1.0
+same_length : tie.Need-shape_of-steps
+same_length c = c.build-states.auto.1.1.1.0
 
-same-length-2 : tie.Need-same-length-2
-same-length-2 c = c.before.before.before.before.before.before.before.before.before.before.before.before.before.before.before.before.before.before.before.before.before.before.before.before.before.before.before.before.before.before.before.before.before.build.auto.1.1.1.1.0
+same-length-2 : tie.Need-shape_of-blocked
+same-length-2 c = c.build-states.auto.1.1.1.1.0
 
-same-length-3 : tie.Need-same-length-3
-same-length-3 c = c.before.before.before.before.before.before.before.before.before.before.before.before.before.before.before.before.before.before.before.before.before.before.before.before.before.before.before.before.before.before.before.before.before.build.auto.1.1.1.1.1.0
+same-length-3 : tie.Need-shape_of-latest
+same-length-3 c = c.build-states.auto.1.1.1.1.1.0
 
-same-length-4 : tie.Need-same-length-4
-same-length-4 c = c.before.before.before.before.before.before.before.before.before.before.before.before.before.before.distances.auto.1.1.1.1.1.1.1.0 ∙ c.before.before.before.before.before.before.before.before.before.before.before.before.before.before.before.before.before.before.before.before.before.before.before.before.before.before.before.before.before.before.before.before.before.build.auto.1.1.1.1.1.1.0
+same-length-4 : tie.Need-shape_of-tails
+same-length-4 c = c.distances.auto.1.1.1.1.1.1.1.0 ∙ c.build-states.auto.1.1.1.1.1.1.0
 
-same-length-5 : tie.Need-same-length-5
-same-length-5 c = c.before.before.before.before.before.before.before.before.before.before.before.before.before.before.distances.auto.1.1.1.1.1.1.1.1.0
+same-length-5 : tie.Need-shape_of-heads
+same-length-5 c = c.distances.auto.1.1.1.1.1.1.1.1.0
 
-same-length-6 : tie.Need-same-length-6
-same-length-6 c = c.before.before.before.before.before.before.before.before.before.before.before.before.before.before.distances.auto.1.1.1.1.1.1.1.1.1.0
+same-length-6 : tie.Need-shape_of-costs
+same-length-6 c = c.distances.auto.1.1.1.1.1.1.1.1.1.0
 
-same-length-7 : tie.Need-same-length-7
-same-length-7 c = c.before.before.before.before.before.before.before.before.before.before.before.before.before.before.distances.auto.1.1.1.1.1.1.1.1.1.1.0
+same-length-7 : tie.Need-shape_of-first
+same-length-7 c = c.distances.auto.1.1.1.1.1.1.1.1.1.1.0
 
-same-length-8 : tie.Need-same-length-8
-same-length-8 c = c.before.before.before.before.before.before.before.before.before.before.before.before.before.before.distances.auto.1.1.1.1.1.1.1.1.1.1.1.0
+same-length-8 : tie.Need-shape_of-next
+same-length-8 c = c.distances.auto.1.1.1.1.1.1.1.1.1.1.1.0
 
-same-length-9 : tie.Need-same-length-9
-same-length-9 c = c.before.before.before.before.before.before.before.before.before.before.before.before.before.before.distances.auto.1.1.1.1.1.1.1.1.1.1.1.1.0
+same-length-9 : tie.Need-shape_of-seen
+same-length-9 c = c.distances.auto.1.1.1.1.1.1.1.1.1.1.1.1.0
 
-same-length-10 : tie.Need-same-length-10
+same-length-10 : tie.Need-shape_of-table
 same-length-10 c =
-    let d = c.before.before.before.before.before.before.before.before.before.before.before.before.before.before in
-    let b = build-of d in
+    let b = build-of c.before.before.before.before.before.before.before.before.before.before.before.before.before.before in
     let s = start_of b in
-    back-length s.pre.0.spells (built b) s.args.table.now s.pre.1.1.entries (distances d) d.distances.auto.1.1.1.1.1.1.1.1.1.1.1.1.1.0
+    back-length s.pre.0.spells (built b) s.args.table.now s.pre.1.1.entries (distances c.before.before.before.before.before.before.before.before.before.before.before.before.before.before) c.distances.auto.1.1.1.1.1.1.1.1.1.1.1.1.1.0
 
 returns : tie.Need-returns
 returns c =
-    let d = c.before.before.before.before.before.before.before.before.before.before.before.before.before.before in
-    let b = build-of d in
+    let b = build-of c.before.before.before.before.before.before.before.before.before.before.before.before.before.before in
     let s = start_of b in
     let spells = s.pre.0.spells in
-    (omega (arith, built-counted spells (built b), s.pre.1.1.entries, back-length spells (built b) s.args.table.now s.pre.1.1.entries (distances d) d.distances.auto.1.1.1.1.1.1.1.1.1.1.1.1.1.0), measured d)
+    (omega (arith, built-counted spells (built b), s.pre.1.1.entries, back-length spells (built b) s.args.table.now s.pre.1.1.entries (distances c.before.before.before.before.before.before.before.before.before.before.before.before.before.before) c.distances.auto.1.1.1.1.1.1.1.1.1.1.1.1.1.0), measured c.before.before.before.before.before.before.before.before.before.before.before.before.before.before)
 
-pub measure-spec : {M : Type 1} → statement M
-measure-spec =
+pub measure_spec : {M : Type 1} → statement M
+measure_spec =
     tie.close
     (tie.spec
     build-requires

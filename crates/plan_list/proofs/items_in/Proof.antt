@@ -7,11 +7,13 @@ use Rattle.plan_list.specs.Items.{most_items}
 use Rattle.plan_list.proofs.items_in.Statement.{statement}
 use Rattle.plan_list.proofs.items_in.Tie as tie
 
-returns : tie.Need-returns
-returns c = ap (λ x. cond x most_items (c.before.args.size / 6)) (sym (lt-ltb _ _ c.if1.true))
+returns : tie.Need-returns-then-whole-gt-MOST_ITEMS
+returns c = ap (λ x. cond x most_items (c.args.size / 6)) (sym (lt-ltb _ _ c.if-whole-gt-MOST_ITEMS.true))
 
-returns-2 : tie.Need-returns-2
-returns-2 c = ap (λ x. cond x most_items (c.before.args.size / 6)) (sym (le-ltb _ _ c.if1.false))
+returns-2 : tie.Need-returns
+returns-2 c = ap (λ x. cond x most_items (c.args.size / 6)) (sym (le-ltb _ _ c.if-whole-gt-MOST_ITEMS.false))
 
-pub items-in-spec : {M : Type 1} → statement M
-items-in-spec = tie.close (tie.spec returns returns-2)
+pub items_in_spec : {M : Type 1} → statement M
+items_in_spec = tie.close (tie.spec
+    returns
+    returns-2)

@@ -14,37 +14,37 @@ invariant-loop buffer₀ counter₀ buffer counter = (counter ≤ 65536)
 abbrev decreases-loop : tie.decreases-loop
 decreases-loop buffer₀ counter₀ buffer counter = 65536 - counter
 
-slice-aggregate-buffer : tie.Need-slice-aggregate-buffer invariant-loop decreases-loop
+slice-aggregate-buffer : tie.Need-slice_bounds-buffer-end invariant-loop decreases-loop
 slice-aggregate-buffer c = search rules
 
 loop-holds : tie.Need-loop-init invariant-loop decreases-loop
 loop-holds c = search rules
 
-next-case-requires : tie.Need-next-case-requires invariant-loop decreases-loop
+next-case-requires : tie.Need-next_case-next-requires invariant-loop decreases-loop
 next-case-requires c κs = search rules
 
-enum-known-next : tie.Need-enum-known-next invariant-loop decreases-loop
+enum-known-next : tie.Need-enum_known-next invariant-loop decreases-loop
 enum-known-next c = search rules
 
-enum_told : tie.Need-enum-told invariant-loop decreases-loop
+enum_told : tie.Need-enum_told-1 invariant-loop decreases-loop
 enum_told c = search rules
 
-returns : tie.Need-returns invariant-loop decreases-loop
+returns : tie.Need-returns-in_default invariant-loop decreases-loop
 returns c = search rules
 
-fits : (c : tie.After-known-told invariant-loop decreases-loop) → c.before.next.given.0.0 ≤ length c.before.before.before.before.before.next-case.new.0
-fits c = case_fits _ _ _ c.before.before.before.before.before.next-case.ensures c.before.next.given.1
+fits : (c : tie.In-Case invariant-loop decreases-loop) → c.in-Case.size ≤ length c.next_case-next.new.0
+fits c = case_fits _ _ _ c.next_case-next.ensures c.in-Case.is
 
-slice-reshare-prefix-list-case : tie.Need-slice-reshare-prefix-list-case invariant-loop decreases-loop
+slice-reshare-prefix-list-case : tie.Need-slice_bounds-list_case-end invariant-loop decreases-loop
 slice-reshare-prefix-list-case c = fits c
 
-slice-aggregate-list-case : tie.Need-slice-aggregate-list-case invariant-loop decreases-loop
-slice-aggregate-list-case c = sym (length-take-le _ _ (fits c.before))
+slice-aggregate-list-case : tie.Need-slice_bounds-list_case-end-in-loop invariant-loop decreases-loop
+slice-aggregate-list-case c = sym (length-take-le _ _ (fits c))
 
-list-case-requires : tie.Need-list-case-requires invariant-loop decreases-loop
+list-case-requires : tie.Need-list_case-requires invariant-loop decreases-loop
 list-case-requires c κs = search rules
 
-add-counter : tie.Need-overflow-add-counter invariant-loop decreases-loop
+add-counter : tie.Need-overflow_step invariant-loop decreases-loop
 add-counter c = search rules
 
 loop-less : tie.Need-loop-smaller invariant-loop decreases-loop
@@ -53,7 +53,7 @@ loop-less c = search rules
 loop-again : tie.Need-loop-preserved invariant-loop decreases-loop
 loop-again c = search rules
 
-returns-2 : tie.Need-returns-2 invariant-loop decreases-loop
+returns-2 : tie.Need-returns invariant-loop decreases-loop
 returns-2 c = search rules
 
 pub main_spec : {M : Type 1} → statement M

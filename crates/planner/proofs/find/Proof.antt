@@ -9,24 +9,24 @@ use Rattle.planner.specs.ValidArea.{valid-spells, valid-bounded, valid-given}
 use Rattle.planner.proofs.find.Statement.{statement}
 use Rattle.planner.proofs.find.Tie as tie
 
-best-walk-requires : tie.Need-best-walk-requires
+best-walk-requires : tie.Need-best_walk-requires
 best-walk-requires c κs =
-    let start = c.before.before.before in
-    let (b, g) = start.requires.0 in (
-      valid-given _ _ _ (graph-few g) (valid→Valid _ _ _ start.requires.1.0),
-      ((graph b, sym g.vertices_are, graph-weights g), start.requires.1.1),
+    let (b, g) = c.requires.0 in (
+      valid-given _ _ _ (graph-few g) (valid→Valid _ _ _ c.requires.1.0),
+      ((graph b, sym g.vertices_are, graph-weights g), c.requires.1.1),
     )
 
-same_length : tie.Need-same-length
+same_length : tie.Need-shape_of-walk
 same_length c = search rules
 
 returns : tie.Need-returns
 returns c b g =
-    let call = c.before.before in
-    let start = call.before.before.before.before in
-    let v = valid→Valid _ _ _ start.requires.1.0 in
-    call.best-walk.ensures (graph b) (spelled start.args.count start.args.paths.now) (sym g.vertices_are) (graph-weights g)
+    let v = valid→Valid _ _ _ c.requires.1.0 in
+    c.best_walk.ensures (graph b) (spelled c.args.count c.args.paths.now) (sym g.vertices_are) (graph-weights g)
     (valid-spells _ _ _ (graph-few g) v) (valid-bounded _ _ _ (graph-few g) v)
 
 pub find_spec : {M : Type 1} → statement M
-find_spec = tie.close (tie.spec best-walk-requires same_length returns)
+find_spec = tie.close (tie.spec
+    best-walk-requires
+    same_length
+    returns)

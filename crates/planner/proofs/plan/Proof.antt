@@ -9,51 +9,46 @@ use Rattle.planner.specs.Planning.{PlanningOf}
 use Rattle.planner.proofs.plan.Statement.{statement}
 use Rattle.planner.proofs.plan.Tie as tie
 
-load-requires : tie.Need-load-requires
+load-requires : tie.Need-load-read-requires
 load-requires c κs = search rules
 
-enum-known-read : tie.Need-enum-known-read
+enum-known-read : tie.Need-enum_known-read
 enum-known-read c = search rules
 
-enum-known-read-2 : tie.Need-enum-known-read-2
+enum-known-read-2 : tie.Need-enum_known-read-in-Read-1
 enum-known-read-2 c = search rules
 
-same_length : tie.Need-same-length
+same_length : tie.Need-shape_of-walk
 same_length c = search rules
 
-returns : tie.Need-returns
+returns : tie.Need-returns-in-Refused
 returns c =
-    let load = c.before.before.before in
-    let a = load.before.before.before.before.before.before.before.before.args in
-    subst (λ x. PlanningOf x a.paths.now a.count a.start a.end a.walk.now (Refused c.before.read.given.0.0) a.walk.now)
-    (sym (answer-refused (reading a.bytes.now) _ (sym load.load.ensures.0 ∙ c.before.read.given.1))) (refl, refl)
+    let a = c.args in
+    subst (λ x. PlanningOf x a.paths.now a.count a.start a.end a.walk.now (Refused c.in-Refused.r) a.walk.now)
+    (sym (answer-refused (reading a.bytes.now) _ (sym c.load-read.ensures.0 ∙ c.in-Refused.is))) (refl, refl)
 
 -- the book that was read
-book : (c : tie.After-known-told2)
-    → let load = c.before.before.before in
-    Loaded load.before.before.before.before.before.before.before.before.args.bytes.now c.before.read2.given.0.0
-    load.load.new.1.0 load.load.new.1.1.0 load.load.new.1.1.1.0 load.load.new.1.1.1.1.0
+book : (c : tie.In-Read)
+    → Loaded c.args.bytes.now c.in-Read.counts
+    c.load-read.new.1.0 c.load-read.new.1.1.0 c.load-read.new.1.1.1.0 c.load-read.new.1.1.1.1.0
 book c =
-    let load = c.before.before.before in
-    loaded load.before.before.before.before.before.before.before.before.args.bytes.now load.load.result c.before.read2.given.0.0 _ _ _ _
-    load.load.ensures.0 load.load.ensures.1 c.before.read2.given.1
+    loaded c.args.bytes.now c.load-read.result c.in-Read.counts _ _ _ _
+    c.load-read.ensures.0 c.load-read.ensures.1 c.in-Read.is
 
-plan-in-requires : tie.Need-plan-in-requires
+plan-in-requires : tie.Need-plan_in-requires
 plan-in-requires c κs =
     let b = book c.before.before in
     (b.book, b.tables.graph)
 
-returns-2 : tie.Need-returns-2
+returns-2 : tie.Need-returns-in-Read
 returns-2 c =
-    let call = c.before.before in
-    let read = call.before.before.before in
-    let b = book read in
-    let a = read.before.before.before.before.before.before.before.before.before.before.before.args in
-    subst (λ x. PlanningOf x a.paths.now a.count a.start a.end a.walk.now call.plan-in.result call.plan-in.new.1.1.1.1.1.1.0)
-    (sym b.is) (call.plan-in.ensures b.book b.tables.graph)
+    let b = book c.before.before.before.before.before in
+    let a = c.args in
+    subst (λ x. PlanningOf x a.paths.now a.count a.start a.end a.walk.now c.plan_in.result c.plan_in.new.1.1.1.1.1.1.0)
+    (sym b.is) (c.plan_in.ensures b.book b.tables.graph)
 
-pub plan-spec : {M : Type 1} → statement M
-plan-spec =
+pub plan_spec : {M : Type 1} → statement M
+plan_spec =
     tie.close
     (tie.spec
     load-requires

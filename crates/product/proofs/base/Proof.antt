@@ -11,57 +11,55 @@ use Rattle.product.proofs.Looping.{next-counted, next-other, base_done, base-non
 use Rattle.product.proofs.base.Statement.{statement}
 use Rattle.product.proofs.base.Tie as tie
 
-abbrev invariant-loop : tie.invariant-loop
+abbrev invariant-loop : tie.invariant-loop-q
 invariant-loop towards vertex latest table₀ q₀ table q =
     (q ≤ length table₀) × (table ≡ base towards latest vertex q ++ drop q table₀) × (length table ≡ length table₀)
 
-abbrev decreases-loop : tie.decreases-loop
+abbrev decreases-loop : tie.decreases-loop-q
 decreases-loop towards vertex latest table₀ q₀ table q = length table₀ - q
 
-loop-holds : tie.Need-loop-init invariant-loop decreases-loop
+loop-holds : tie.Need-loop-q-init invariant-loop decreases-loop
 loop-holds c = (omega arith, base-none _ _ _ _, refl)
 
 place-requires : tie.Need-place-requires invariant-loop decreases-loop
 place-requires c κs = omega arith
 
-mul-table : tie.Need-overflow-mul-table invariant-loop decreases-loop
+mul-table : tie.Need-offset_bounds-table-q invariant-loop decreases-loop
 mul-table c = omega arith
 
-slice-write-table : tie.Need-slice-write-table invariant-loop decreases-loop
+slice-write-table : tie.Need-bounds-table-q invariant-loop decreases-loop
 slice-write-table c = omega arith
 
-mul-table-2 : tie.Need-overflow-mul-table-2 invariant-loop decreases-loop
+mul-table-2 : tie.Need-offset_bounds-table-q-else-place-vertex invariant-loop decreases-loop
 mul-table-2 c = omega arith
 
-slice-write-table-2 : tie.Need-slice-write-table-2 invariant-loop decreases-loop
+slice-write-table-2 : tie.Need-bounds-table-q-else-place-vertex invariant-loop decreases-loop
 slice-write-table-2 c = omega arith
 
-add-q : tie.Need-overflow-add-q invariant-loop decreases-loop
+add-q : tie.Need-overflow_add-q invariant-loop decreases-loop
 add-q c = omega arith
 
-loop-less : tie.Need-loop-smaller invariant-loop decreases-loop
+loop-less : tie.Need-loop-q-smaller invariant-loop decreases-loop
 loop-less c = omega arith
 
-loop-again : tie.Need-loop-preserved invariant-loop decreases-loop
+loop-again : tie.Need-loop-q-preserved invariant-loop decreases-loop
 loop-again c =
-    let l = c.before.before.before in
-    let a = l.before.before.before.args in
+    let a = c.args in
     ⊎_elim
-    (λ w. (omega arith, w.1 ∙ next-counted a.towards a.latest.now a.vertex a.table.now l.loop.q (omega arith) l.loop.invariant.1 (sym c.before.place.ensures ∙ w.0.taken), ap length w.1 ∙ length-set l.loop.table l.loop.q 0 ∙ l.loop.invariant.2))
-    (λ w. (omega arith, w.1 ∙ next-other a.towards a.latest.now a.vertex a.table.now l.loop.q (omega arith) l.loop.invariant.1 (λ e. w.0.left (c.before.place.ensures ∙ e)), ap length w.1 ∙ length-set l.loop.table l.loop.q inf ∙ l.loop.invariant.2))
-    c.if1.branch
+    (λ w. (omega arith, w.1 ∙ next-counted a.towards a.latest.now a.vertex a.table.now c.loop-q.q (omega arith) c.loop-q.invariant.1 (sym c.place.ensures ∙ w.0.taken), ap length w.1 ∙ length-set c.loop-q.table c.loop-q.q 0 ∙ c.loop-q.invariant.2))
+    (λ w. (omega arith, w.1 ∙ next-other a.towards a.latest.now a.vertex a.table.now c.loop-q.q (omega arith) c.loop-q.invariant.1 (λ e. w.0.left (c.place.ensures ∙ e)), ap length w.1 ∙ length-set c.loop-q.table c.loop-q.q inf ∙ c.loop-q.invariant.2))
+    c.if-place-vertex.branch
 
-same_length : tie.Need-same-length invariant-loop decreases-loop
+same_length : tie.Need-shape_of-table invariant-loop decreases-loop
 same_length c = omega arith
 
 returns : tie.Need-returns invariant-loop decreases-loop
 returns c =
-    let l = c.before in
-    let a = l.before.before.before.args in
-    base_done a.towards a.latest.now a.vertex a.table.now l.loop.q (omega arith) l.loop.invariant.1
+    let a = c.args in
+    base_done a.towards a.latest.now a.vertex a.table.now c.loop-q.q (omega arith) c.loop-q.invariant.1
 
-pub base-spec : {M : Type 1} → statement M
-base-spec =
+pub base_spec : {M : Type 1} → statement M
+base_spec =
     tie.close
     (tie.spec
     invariant-loop

@@ -11,33 +11,31 @@ base-requires c κs = search rules
 
 link-requires : tie.Need-link-requires
 link-requires c κs =
-    let s = c.before.before.before.before.before.before.before.before.before.before.before.before.before.before.requires in
+    let s = c.requires in
     (omega (arith, s.few, s.heads_length), (s.next-length ∙ sym s.heads_length, (scratch_head s, s.first-blank)))
 
 settle-requires : tie.Need-settle-requires
 settle-requires c κs =
-    let s = c.before.before.before.before.before.before.before.before.before.before.before.before.before.before.before.before.before.before.before.before.before.before.before in
-    scratch_settle s.requires s.args.towards s.args.vertex c.before.before.before.before.before.before.before.before.before.before.before.before.before.base.ensures (omega arith) c.before.before.before.before.before.before.before.before.link.ensures
+    scratch_settle c.requires c.args.towards c.args.vertex c.base.ensures (omega arith) c.link.ensures
 
-same_length : tie.Need-same-length
+same_length : tie.Need-shape_of-first
 same_length c = search rules
 
-same-length-2 : tie.Need-same-length-2
+same-length-2 : tie.Need-shape_of-next
 same-length-2 c = search rules
 
-same-length-3 : tie.Need-same-length-3
+same-length-3 : tie.Need-shape_of-seen
 same-length-3 c = search rules
 
-same-length-4 : tie.Need-same-length-4
+same-length-4 : tie.Need-shape_of-table
 same-length-4 c = search rules
 
 returns : tie.Need-returns
 returns c =
-    let s = c.before.before.before.before.before.before.before.before.before.before.before.before.before.before.before.before.before.before.before.before.before.before.before.before.before.before.before.before in
-    c.before.before.before.before.settle.ensures ∙ scratch_passes s.requires s.args.towards s.args.vertex c.before.before.before.before.before.before.before.before.before.before.before.before.before.before.before.before.before.before.base.ensures
+    c.settle.ensures ∙ scratch_passes c.requires c.args.towards c.args.vertex c.base.ensures
 
-pub distances-over-spec : {M : Type 1} → statement M
-distances-over-spec =
+pub distances_over_spec : {M : Type 1} → statement M
+distances_over_spec =
     tie.close
     (tie.spec
     base-requires

@@ -9,135 +9,128 @@ use Rattle.product.proofs.Filling.{Filling, filling_none, filling_open, filling_
 use Rattle.product.proofs.edges_from.Statement.{statement}
 use Rattle.product.proofs.edges_from.Tie as tie
 
-abbrev invariant-loop : tie.invariant-loop
+abbrev invariant-loop : tie.invariant-loop-v
 invariant-loop n q weights steps blocked latest tails₀ heads₀ costs₀ filled arcs row bits₀ k₀ v₀ tails heads costs bits k v =
     (v ≤ n) × Filling weights steps blocked latest q filled tails₀ heads₀ costs₀ tails heads costs bits k v
 
-abbrev decreases-loop : tie.decreases-loop
+abbrev decreases-loop : tie.decreases-loop-v
 decreases-loop n q weights steps blocked latest tails₀ heads₀ costs₀ filled arcs row bits₀ k₀ v₀ tails heads costs bits k v =
     n - v
 
-opened : (c : tie.After-is-open invariant-loop decreases-loop) →
-    let l = c.before.before.before in
-    let a = l.before.before.before.before.before.before.before.before.before.args in
-    c.is_open.result ≡ is_open a.weights.now a.steps.now a.blocked.now a.latest.now a.q l.loop.v
+opened : (c : tie.After-is_open invariant-loop decreases-loop) →
+    let a = c.args in
+    c.is_open.result ≡ is_open a.weights.now a.steps.now a.blocked.now a.latest.now a.q c.loop-v.v
 opened c =
-    let l = c.before.before.before in
-    let a = l.before.before.before.before.before.before.before.before.before.args in
-    c.is_open.ensures ∙ open_test a.weights.now a.steps.now a.blocked.now a.latest.now a.q l.loop.v l.loop.bits l.loop.invariant.1.left_is
+    let a = c.args in
+    c.is_open.ensures ∙ open_test a.weights.now a.steps.now a.blocked.now a.latest.now a.q c.loop-v.v c.loop-v.bits c.loop-v.invariant.1.left_is
 
-light : (c : tie.Then1 invariant-loop decreases-loop) →
-    let l = c.before.before.before.before in
-    let a = l.before.before.before.before.before.before.before.before.before.args in
-    arc_at a.weights.now a.steps.now a.blocked.now a.latest.now a.q l.loop.v ≤ heaviest
+light : (c : tie.Then-is_open invariant-loop decreases-loop) →
+    let a = c.args in
+    arc_at a.weights.now a.steps.now a.blocked.now a.latest.now a.q c.loop-v.v ≤ heaviest
 light c =
-    let l = c.before.before.before.before in
-    l.before.before.before.before.before.before.before.before.before.requires.0.light l.loop.v c.before.before.before.loop-test.true (sym (opened c.before) ∙ c.if1.true)
+    c.requires.0.light c.loop-v.v c.loop-v-test.true (sym (opened c.before) ∙ c.if-is_open.true)
 
-shared-slice-read-arcs : tie.Need-shared-slice-read-arcs invariant-loop decreases-loop
+shared-slice-read-arcs : tie.Need-bounds-latest-q invariant-loop decreases-loop
 shared-slice-read-arcs c = omega arith
 
-cast-arcs : tie.Need-overflow-cast-arcs invariant-loop decreases-loop
+cast-arcs : tie.Need-overflow_cast-arcs invariant-loop decreases-loop
 cast-arcs c = omega arith
 
-mul-arcs : tie.Need-overflow-mul-arcs invariant-loop decreases-loop
+mul-arcs : tie.Need-overflow_mul-arcs invariant-loop decreases-loop
 mul-arcs c = omega arith
 
-mul-row : tie.Need-overflow-mul-row invariant-loop decreases-loop
+mul-row : tie.Need-overflow_mul-row invariant-loop decreases-loop
 mul-row c = omega arith
 
-mul-bits : tie.Need-overflow-mul-bits invariant-loop decreases-loop
+mul-bits : tie.Need-offset_bounds-blocked-q invariant-loop decreases-loop
 mul-bits c = omega arith
 
-shared-slice-read-bits : tie.Need-shared-slice-read-bits invariant-loop decreases-loop
+shared-slice-read-bits : tie.Need-bounds-blocked-q invariant-loop decreases-loop
 shared-slice-read-bits c = omega arith
 
-loop-holds : tie.Need-loop-init invariant-loop decreases-loop
+loop-holds : tie.Need-loop-v-init invariant-loop decreases-loop
 loop-holds c = (omega arith, filling_none _ _ _ _ _ _ _ _ _)
 
-add-weight : tie.Need-overflow-add-weight invariant-loop decreases-loop
+add-weight : tie.Need-overflow_add-weight invariant-loop decreases-loop
 add-weight c = omega arith
 
-mul-weight : tie.Need-overflow-mul-weight invariant-loop decreases-loop
+mul-weight : tie.Need-offset_bounds-weights-arcs invariant-loop decreases-loop
 mul-weight c = omega arith
 
-element-copy-out-weight : tie.Need-element-copy-out-weight invariant-loop decreases-loop
+element-copy-out-weight : tie.Need-bounds-weights-arcs invariant-loop decreases-loop
 element-copy-out-weight c = omega arith
 
-is-open-requires : tie.Need-is-open-requires invariant-loop decreases-loop
+is-open-requires : tie.Need-is_open-requires invariant-loop decreases-loop
 is-open-requires c κs = tt
 
-cast-tails : tie.Need-overflow-cast-tails invariant-loop decreases-loop
+cast-tails : tie.Need-overflow_cast-tails invariant-loop decreases-loop
 cast-tails c = omega arith
 
-mul-tails : tie.Need-overflow-mul-tails invariant-loop decreases-loop
+mul-tails : tie.Need-offset_bounds-tails-k invariant-loop decreases-loop
 mul-tails c = omega arith
 
-slice-write-tails : tie.Need-slice-write-tails invariant-loop decreases-loop
+slice-write-tails : tie.Need-bounds-tails-k invariant-loop decreases-loop
 slice-write-tails c = omega arith
 
-add-heads : tie.Need-overflow-add-heads invariant-loop decreases-loop
+add-heads : tie.Need-overflow_add-heads invariant-loop decreases-loop
 add-heads c = omega arith
 
-mul-heads : tie.Need-overflow-mul-heads invariant-loop decreases-loop
+mul-heads : tie.Need-offset_bounds-steps-row invariant-loop decreases-loop
 mul-heads c = omega arith
 
-shared-slice-read-heads : tie.Need-shared-slice-read-heads invariant-loop decreases-loop
+shared-slice-read-heads : tie.Need-bounds-steps-row invariant-loop decreases-loop
 shared-slice-read-heads c = omega arith
 
-mul-heads-2 : tie.Need-overflow-mul-heads-2 invariant-loop decreases-loop
+mul-heads-2 : tie.Need-offset_bounds-heads-k invariant-loop decreases-loop
 mul-heads-2 c = omega arith
 
-slice-write-heads : tie.Need-slice-write-heads invariant-loop decreases-loop
+slice-write-heads : tie.Need-bounds-heads-k invariant-loop decreases-loop
 slice-write-heads c = omega arith
 
-mul-costs : tie.Need-overflow-mul-costs invariant-loop decreases-loop
+mul-costs : tie.Need-overflow_mul-costs invariant-loop decreases-loop
 mul-costs c = omega (arith, light c.before)
 
-add-costs : tie.Need-overflow-add-costs invariant-loop decreases-loop
+add-costs : tie.Need-overflow_add-costs invariant-loop decreases-loop
 add-costs c = omega (arith, light c.before)
 
-mul-costs-2 : tie.Need-overflow-mul-costs-2 invariant-loop decreases-loop
+mul-costs-2 : tie.Need-offset_bounds-costs-k invariant-loop decreases-loop
 mul-costs-2 c = omega arith
 
-slice-write-costs : tie.Need-slice-write-costs invariant-loop decreases-loop
+slice-write-costs : tie.Need-bounds-costs-k invariant-loop decreases-loop
 slice-write-costs c = omega arith
 
-add-k : tie.Need-overflow-add-k invariant-loop decreases-loop
+add-k : tie.Need-overflow_add-k invariant-loop decreases-loop
 add-k c = omega arith
 
-add-v : tie.Need-overflow-add-v invariant-loop decreases-loop
+add-v : tie.Need-overflow_add-v invariant-loop decreases-loop
 add-v c = omega arith
 
-loop-less : tie.Need-loop-smaller invariant-loop decreases-loop
+loop-less : tie.Need-loop-v-smaller invariant-loop decreases-loop
 loop-less c = omega arith
 
-loop-again : tie.Need-loop-preserved invariant-loop decreases-loop
+loop-again : tie.Need-loop-v-preserved invariant-loop decreases-loop
 loop-again c =
-    let o = c.before in
-    let l = o.before.before.before in
     ⊎_elim
-    (λ w. (omega arith, rw (w.2, w.3, w.4, w.5) (filling_open _ _ _ _ _ _ _ _ _ l.loop.invariant.1 (sym (opened o) ∙ w.0.taken) (omega arith) (omega arith) (omega arith))))
-    (λ w. (omega arith, rw (w.1, w.2, w.3, w.4) (filling_shut _ _ _ _ _ _ _ _ _ l.loop.invariant.1 (sym (opened o) ∙ w.0.left))))
-    c.if1.branch
+    (λ w. (omega arith, rw (w.2, w.3, w.4, w.5) (filling_open _ _ _ _ _ _ _ _ _ c.loop-v.invariant.1 (sym (opened c.before) ∙ w.0.taken) (omega arith) (omega arith) (omega arith))))
+    (λ w. (omega arith, rw (w.1, w.2, w.3, w.4) (filling_shut _ _ _ _ _ _ _ _ _ c.loop-v.invariant.1 (sym (opened c.before) ∙ w.0.left))))
+    c.if-is_open.branch
 
-same_length : tie.Need-same-length invariant-loop decreases-loop
+same_length : tie.Need-shape_of-tails invariant-loop decreases-loop
 same_length c = omega arith
 
-same-length-2 : tie.Need-same-length-2 invariant-loop decreases-loop
+same-length-2 : tie.Need-shape_of-heads invariant-loop decreases-loop
 same-length-2 c = omega arith
 
-same-length-3 : tie.Need-same-length-3 invariant-loop decreases-loop
+same-length-3 : tie.Need-shape_of-costs invariant-loop decreases-loop
 same-length-3 c = omega arith
 
 returns : tie.Need-returns invariant-loop decreases-loop
 returns c =
-    let l = c.before in
-    let end : l.loop.v ≡ l.before.before.before.before.before.before.before.before.before.args.n = omega arith in
-    (omega arith, λ es i. rw end at (l.loop.invariant.1.columns es i))
+    let end : c.loop-v.v ≡ c.args.n = omega arith in
+    (omega arith, λ es i. rw end at (c.loop-v.invariant.1.columns es i))
 
-pub edges-from-spec : {M : Type 1} → statement M
-edges-from-spec =
+pub edges_from_spec : {M : Type 1} → statement M
+edges_from_spec =
     tie.close
     (tie.spec
     invariant-loop

@@ -5,17 +5,21 @@ use borrow.Author.Rules.{rules}
 use Rattle.product.proofs.place.Statement.{statement}
 use Rattle.product.proofs.place.Tie as tie
 
-shared-slice-read-vertex : tie.Need-shared-slice-read-vertex
+shared-slice-read-vertex : tie.Need-bounds-latest-q
 shared-slice-read-vertex c = search rules
 
-cast-vertex : tie.Need-overflow-cast-vertex
-cast-vertex c = omega (arith, c.shared-slice-known.given c.before.args.q)
+cast-vertex : tie.Need-overflow_cast-vertex
+cast-vertex c = omega (arith, c.shared_slice_known-1.given c.args.q)
 
-returns : tie.Need-returns
-returns c = rw c.if1.true refl
+returns : tie.Need-returns-then-towards
+returns c = rw c.if-towards.true refl
 
-returns-2 : tie.Need-returns-2
-returns-2 c = rw c.if1.false refl
+returns-2 : tie.Need-returns-else-towards
+returns-2 c = rw c.if-towards.false refl
 
-pub place-spec : {M : Type 1} → statement M
-place-spec = tie.close (tie.spec shared-slice-read-vertex cast-vertex returns returns-2)
+pub place_spec : {M : Type 1} → statement M
+place_spec = tie.close (tie.spec
+    shared-slice-read-vertex
+    cast-vertex
+    returns
+    returns-2)

@@ -9,51 +9,46 @@ use borrow.Author.Rules.{rules}
 use Rattle.reach.proofs.reach.Statement.{statement}
 use Rattle.reach.proofs.reach.Tie as tie
 
-load-requires : tie.Need-load-requires
+load-requires : tie.Need-load-read-requires
 load-requires c κs = search rules
 
-enum-known-read : tie.Need-enum-known-read
+enum-known-read : tie.Need-enum_known-read
 enum-known-read c = search rules
 
-enum-known-read-2 : tie.Need-enum-known-read-2
+enum-known-read-2 : tie.Need-enum_known-read-in-Read-1
 enum-known-read-2 c = search rules
 
 -- the book that was read
-book : (c : tie.After-known-told2)
-    → let load = c.before.before.before in
-    Loaded load.before.before.before.before.before.before.before.before.args.bytes.now c.before.read2.given.0.0
-    load.load.new.1.0 load.load.new.1.1.0 load.load.new.1.1.1.0 load.load.new.1.1.1.1.0
+book : (c : tie.In-Read)
+    → Loaded c.args.bytes.now c.in-Read.counts
+    c.load-read.new.1.0 c.load-read.new.1.1.0 c.load-read.new.1.1.1.0 c.load-read.new.1.1.1.1.0
 book c =
-    let load = c.before.before.before in
-    loaded load.before.before.before.before.before.before.before.before.args.bytes.now load.load.result c.before.read2.given.0.0 _ _ _ _
-    load.load.ensures.0 load.load.ensures.1 c.before.read2.given.1
+    loaded c.args.bytes.now c.load-read.result c.in-Read.counts _ _ _ _
+    c.load-read.ensures.0 c.load-read.ensures.1 c.in-Read.is
 
-reach-in-requires : tie.Need-reach-in-requires
+reach-in-requires : tie.Need-reach_in-requires
 reach-in-requires c κs =
     let b = book c.before.before in
     (b.book, b.tables.graph)
 
-returns : tie.Need-returns
+returns : tie.Need-returns-in-Refused
 returns c =
-    let load = c.before.before.before in
-    let a = load.before.before.before.before.before.before.before.before.args in
-    subst (λ x. Reaching x a.paths.now a.count a.start a.table.now (Refused c.before.read.given.0.0) a.table.now)
-    (sym (answer-refused (reading a.bytes.now) _ (sym load.load.ensures.0 ∙ c.before.read.given.1))) (refl, refl)
+    let a = c.args in
+    subst (λ x. Reaching x a.paths.now a.count a.start a.table.now (Refused c.in-Refused.r) a.table.now)
+    (sym (answer-refused (reading a.bytes.now) _ (sym c.load-read.ensures.0 ∙ c.in-Refused.is))) (refl, refl)
 
-same_length : tie.Need-same-length
+same_length : tie.Need-shape_of-table
 same_length c = search rules
 
-returns-2 : tie.Need-returns-2
+returns-2 : tie.Need-returns-in-Read
 returns-2 c =
-    let call = c.before.before in
-    let read = call.before.before.before in
-    let b = book read in
-    let a = read.before.before.before.before.before.before.before.before.before.before.before.args in
-    subst (λ x. Reaching x a.paths.now a.count a.start a.table.now call.reach-in.result call.reach-in.new.1.1.1.1.1.0)
-    (sym b.is) (call.reach-in.ensures b.book b.tables.graph)
+    let b = book c.before.before.before.before.before in
+    let a = c.args in
+    subst (λ x. Reaching x a.paths.now a.count a.start a.table.now c.reach_in.result c.reach_in.new.1.1.1.1.1.0)
+    (sym b.is) (c.reach_in.ensures b.book b.tables.graph)
 
-pub reach-spec : {M : Type 1} → statement M
-reach-spec =
+pub reach_spec : {M : Type 1} → statement M
+reach_spec =
     tie.close
     (tie.spec
     load-requires

@@ -17,76 +17,71 @@ use borrow.Author.Rules.{rules}
 use Rattle.reach.proofs.reach_in.Statement.{statement}
 use Rattle.reach.proofs.reach_in.Tie as tie
 
-returns : tie.Need-returns
+returns : tie.Need-returns-then-paths-lt-AREA
 returns c b g =
-    let a = c.before.before.before.args in
+    let a = c.args in
     reach-fails b a.paths.now a.count a.start a.table.now
-    (here (lt-leb _ _ c.if1.true))
+    (here (lt-leb _ _ c.if-paths-lt-AREA.true))
 
-mul-if2 : tie.Need-overflow-mul-if2
+mul-if2 : tie.Need-overflow_mul-vertices
 mul-if2 c = search rules
 
-returns-2 : tie.Need-returns-2
+returns-2 : tie.Need-returns-then-table-vertices
 returns-2 c b g =
-    let a = c.before.before.before.before.args in
+    let a = c.args in
     reach-fails b a.paths.now a.count a.start a.table.now
-    (later (le-leb _ _ c.before.if1.false) (here (lt-leb (2 * b.count) _ (omega (arith, g.vertices_are, c.if2.true)))))
+    (later (le-leb _ _ c.if-paths-lt-AREA.false) (here (lt-leb (2 * b.count) _ (omega (arith, g.vertices_are, c.if-table-vertices.true)))))
 
-returns-3 : tie.Need-returns-3
+returns-3 : tie.Need-returns-then-vertices-start
 returns-3 c b g =
-    let a = c.before.before.before.before.before.args in
+    let a = c.args in
     reach-fails b a.paths.now a.count a.start a.table.now
-    (later (le-leb _ _ c.before.before.if1.false)
-    (later (le-leb (2 * b.count) _ (omega (arith, g.vertices_are, c.before.if2.false))) (here (le-ltb a.start b.count (omega (arith, g.vertices_are, c.if3.true))))))
+    (later (le-leb _ _ c.if-paths-lt-AREA.false)
+    (later (le-leb (2 * b.count) _ (omega (arith, g.vertices_are, c.if-table-vertices.false))) (here (le-ltb a.start b.count (omega (arith, g.vertices_are, c.if-vertices-start.true))))))
 
 valid-requires : tie.Need-valid-requires
 valid-requires c κs = search rules
 
 valid-is : (c : tie.After-valid) (x : Bool) → c.valid.result ≡ x
-    → let a = c.before.before.before.before.before.before.args in
+    → let a = c.args in
     (b : Book) → IsGraph b a.vertices a.weights.now → valid b.count a.paths.now a.count ≡ x
 valid-is c x e b g =
-    let a = c.before.before.before.before.before.before.args in
+    let a = c.args in
     ap (λ n. valid n a.paths.now a.count) (sym g.vertices_are) ∙ sym c.valid.ensures ∙ e
 
-returns-4 : tie.Need-returns-4
+returns-4 : tie.Need-returns-then-not-valid
 returns-4 c b g =
-    let v = c.before in
-    let a = v.before.before.before.before.before.before.args in
+    let a = c.args in
     reach-fails b a.paths.now a.count a.start a.table.now
-    (later (le-leb _ _ v.before.before.before.if1.false)
-    (later (le-leb (2 * b.count) _ (omega (arith, g.vertices_are, v.before.before.if2.false)))
-    (later (lt-ltb a.start b.count (omega (arith, g.vertices_are, v.before.if3.false))) (here (valid-is v _ (not-true v.valid.result c.if4.true) b g)))))
+    (later (le-leb _ _ c.if-paths-lt-AREA.false)
+    (later (le-leb (2 * b.count) _ (omega (arith, g.vertices_are, c.if-table-vertices.false)))
+    (later (lt-ltb a.start b.count (omega (arith, g.vertices_are, c.if-vertices-start.false))) (here (valid-is c.before _ (not-true c.valid.result c.if-not-valid.true-raw) b g)))))
 
 fill-requires : tie.Need-fill-requires
 fill-requires c κs =
-    let v = c.before.before in
-    (v.before.before.before.before.before.before.requires, (sym v.valid.ensures ∙ not-false v.valid.result c.before.if4.false, (v.before.if3.false, v.before.before.if2.false)))
+    (c.requires, (sym c.valid.ensures ∙ not-false c.valid.result c.if-not-valid.false-raw, (c.if-vertices-start.false, c.if-table-vertices.false)))
 
-same_length : tie.Need-same-length
+same_length : tie.Need-shape_of-table
 same_length c = search rules
 
-returns-5 : tie.Need-returns-5
+returns-5 : tie.Need-returns
 returns-5 c b g =
-    let call = c.before.before in
-    let else4 = call.before.before in
-    let v = else4.before in
-    let a = v.before.before.before.before.before.before.args in
+    let a = c.args in
     let n = g.vertices_are in
     let (answer, table) =
     reach-fills b a.paths.now a.count a.start a.table.now (
-      le-leb _ _ v.before.before.before.if1.false,
+      le-leb _ _ c.if-paths-lt-AREA.false,
       (
-        le-leb (2 * b.count) _ (omega (arith, n, v.before.before.if2.false)),
-        (lt-ltb a.start b.count (omega (arith, n, v.before.if3.false)), (valid-is v _ (not-false v.valid.result else4.if4.false) b g, tt)),
+        le-leb (2 * b.count) _ (omega (arith, n, c.if-table-vertices.false)),
+        (lt-ltb a.start b.count (omega (arith, n, c.if-vertices-start.false)), (valid-is c.before.before.before.before.before _ (not-false c.valid.result c.if-not-valid.false-raw) b g, tt)),
       ),
     ) in (
       ap Filled n ∙ answer,
-      call.fill.ensures b g ∙ ap (λ k. ends (graph b) (spelled a.count a.paths.now) a.start k ++ drop (2 * k) a.table.now) n ∙ table,
+      c.fill.ensures b g ∙ ap (λ k. ends (graph b) (spelled a.count a.paths.now) a.start k ++ drop (2 * k) a.table.now) n ∙ table,
     )
 
-pub reach-in-spec : {M : Type 1} → statement M
-reach-in-spec =
+pub reach_in_spec : {M : Type 1} → statement M
+reach_in_spec =
     tie.close
     (tie.spec
     returns

@@ -6,10 +6,10 @@ use Rattle.record_bytes.proofs.record_of.Tie as tie
 eight-requires : tie.Need-eight-requires
 eight-requires c κs = search rules
 
-shared-slice-read-t4 : tie.Need-shared-slice-read-t4
+shared-slice-read-t4 : tie.Need-bounds-s-8
 shared-slice-read-t4 c = search rules
 
-shared-slice-read-t6 : tie.Need-shared-slice-read-t6
+shared-slice-read-t6 : tie.Need-bounds-s-9
 shared-slice-read-t6 c = search rules
 
 eight-requires-2 : tie.Need-eight-requires-2
@@ -33,8 +33,8 @@ eight-requires-7 c κs = search rules
 returns : tie.Need-returns
 returns c = cc
 
-pub record-of-spec : {M : Type 1} → statement M
-record-of-spec =
+pub record_of_spec : {M : Type 1} → statement M
+record_of_spec =
     tie.close
     (tie.spec
     eight-requires

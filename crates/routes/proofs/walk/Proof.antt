@@ -13,121 +13,112 @@ use Rattle.routes.proofs.Walking.{Walking, walking_start, walking_guided, walkin
 use Rattle.routes.proofs.walk.Statement.{statement}
 use Rattle.routes.proofs.walk.Tie as tie
 
-abbrev invariant-loop : tie.invariant-loop
+abbrev invariant-loop : tie.invariant-loop-k
 invariant-loop n start weights steps blocked latest table area₀ count q₀ k₀ area q k =
     (k ≤ at table start % hops_limit + 1) × (length area ≡ length area₀) × Walking weights steps blocked latest table n start area₀ area q k
 
-abbrev decreases-loop : tie.decreases-loop
+abbrev decreases-loop : tie.decreases-loop-k
 decreases-loop n start weights steps blocked latest table area₀ count q₀ k₀ area q k = at table start % hops_limit + 1 - k
 
 row : (s : tie.Start invariant-loop decreases-loop) (q : ℕ) → q < length s.args.table.now → Row s.args.n s.args.weights.now s.args.steps.now s.args.blocked.now s.args.latest.now q
 row s q h = (node s.requires.0 q h).row
 
 -- The vertex that is taken, and the state after it.
-taken : (c : tie.After-next invariant-loop decreases-loop) →
-    let a = c.before.before.before.before.before.before.before.before.before.args in
-    let q = c.before.before.loop.q in
-    (c.next.result ≡ next a.weights.now a.steps.now a.blocked.now a.latest.now a.table.now a.n q)
-    × (c.next.result < a.n)
-    × (step_to a.weights.now a.steps.now a.blocked.now a.latest.now q c.next.result < length a.table.now)
+taken : (c : tie.After-next-v invariant-loop decreases-loop) →
+    let a = c.args in
+    let q = c.loop-k.q in
+    (c.next-v.result ≡ next a.weights.now a.steps.now a.blocked.now a.latest.now a.table.now a.n q)
+    × (c.next-v.result < a.n)
+    × (step_to a.weights.now a.steps.now a.blocked.now a.latest.now q c.next-v.result < length a.table.now)
 taken c =
-    let l = c.before.before in
-    let way = walking_guided _ _ _ _ _ _ _ _ l.before.before.before.before.before.before.before.requires.0 l.loop.invariant.2 c.before.loop-test.true in
-    (c.next.ensures, rw c.next.ensures way.vertex-below, rw c.next.ensures way.state-below)
+    let way = walking_guided _ _ _ _ _ _ _ _ c.requires.0 c.loop-k.invariant.2 c.loop-k-test.true in
+    (c.next-v.ensures, rw c.next-v.ensures way.vertex-below, rw c.next-v.ensures way.state-below)
 
-here : (c : tie.After-next invariant-loop decreases-loop) →
-    let a = c.before.before.before.before.before.before.before.before.before.args in
-    Row a.n a.weights.now a.steps.now a.blocked.now a.latest.now c.before.before.loop.q
+here : (c : tie.After-next-v invariant-loop decreases-loop) →
+    let a = c.args in
+    Row a.n a.weights.now a.steps.now a.blocked.now a.latest.now c.loop-k.q
 here c =
-    let l = c.before.before in
-    row l.before.before.before.before.before.before.before l.loop.q l.loop.invariant.2.state-below
+    row c.before.before.before.before.before.before.before.before.before c.loop-k.q c.loop-k.invariant.2.state-below
 
-mul-count : tie.Need-overflow-mul-count invariant-loop decreases-loop
+mul-count : tie.Need-offset_bounds-table-start invariant-loop decreases-loop
 mul-count c = omega arith
 
-shared-slice-read-count : tie.Need-shared-slice-read-count invariant-loop decreases-loop
+shared-slice-read-count : tie.Need-bounds-table-start invariant-loop decreases-loop
 shared-slice-read-count c = omega arith
 
-add-count : tie.Need-overflow-add-count invariant-loop decreases-loop
+add-count : tie.Need-overflow_add-count invariant-loop decreases-loop
 add-count c = omega arith
 
-cast-area : tie.Need-overflow-cast-area invariant-loop decreases-loop
+cast-area : tie.Need-overflow_cast-area invariant-loop decreases-loop
 cast-area c =
-    let s = c.before.before.before.before.before.before in
-    omega (arith, (row s s.args.start s.requires.1.0.1).few-vertices)
+    omega (arith, (row c.before.before.before.before.before.before c.args.start c.requires.1.0.1).few-vertices)
 
-slice-write-area : tie.Need-slice-write-area invariant-loop decreases-loop
+slice-write-area : tie.Need-bounds-area-0 invariant-loop decreases-loop
 slice-write-area c = omega arith
 
-loop-holds : tie.Need-loop-init invariant-loop decreases-loop
+loop-holds : tie.Need-loop-k-init invariant-loop decreases-loop
 loop-holds c =
-    let s = c.before.before.before.before.before.before in
-    let a = s.args in
-    (omega arith, refl, walking_start a.weights.now a.steps.now a.blocked.now a.latest.now a.table.now a.n a.start a.area.now s.requires.1.0.1 s.requires.1.0.2 (omega (arith, s.requires.1.1)))
+    let a = c.args in
+    (omega arith, refl, walking_start a.weights.now a.steps.now a.blocked.now a.latest.now a.table.now a.n a.start a.area.now c.requires.1.0.1 c.requires.1.0.2 (omega (arith, c.requires.1.1)))
 
-next-requires : tie.Need-next-requires invariant-loop decreases-loop
+next-requires : tie.Need-next-v-requires invariant-loop decreases-loop
 next-requires c κs =
-    let l = c.before in
-    node l.before.before.before.before.before.before.before.requires.0 l.loop.q l.loop.invariant.2.state-below
+    node c.requires.0 c.loop-k.q c.loop-k.invariant.2.state-below
 
-cast-area-2 : tie.Need-overflow-cast-area-2 invariant-loop decreases-loop
+cast-area-2 : tie.Need-overflow_cast-area-in-loop-k invariant-loop decreases-loop
 cast-area-2 c = omega (arith, taken c, here c)
 
-slice-write-area-2 : tie.Need-slice-write-area-2 invariant-loop decreases-loop
-slice-write-area-2 c = omega (arith, length-set c.before.before.before.before.before.before.before.before.before.args.area.now 0 c.before.before.before.before.before.before.before.before.before.args.start)
+slice-write-area-2 : tie.Need-bounds-area-k invariant-loop decreases-loop
+slice-write-area-2 c = omega (arith, length-set c.args.area.now 0 c.args.start)
 
-mul-q : tie.Need-overflow-mul-q invariant-loop decreases-loop
+mul-q : tie.Need-overflow_mul-q invariant-loop decreases-loop
 mul-q c = omega (arith, taken c, here c)
 
-add-q : tie.Need-overflow-add-q invariant-loop decreases-loop
+add-q : tie.Need-overflow_add-q invariant-loop decreases-loop
 add-q c = omega (arith, taken c, here c)
 
-mul-q-2 : tie.Need-overflow-mul-q-2 invariant-loop decreases-loop
+mul-q-2 : tie.Need-offset_bounds-steps-q invariant-loop decreases-loop
 mul-q-2 c = omega (arith, taken c, here c)
 
-shared-slice-read-q : tie.Need-shared-slice-read-q invariant-loop decreases-loop
+shared-slice-read-q : tie.Need-bounds-steps-q invariant-loop decreases-loop
 shared-slice-read-q c = omega (arith, taken c.before, here c.before)
 
-cast-q : tie.Need-overflow-cast-q invariant-loop decreases-loop
+cast-q : tie.Need-overflow_cast-q invariant-loop decreases-loop
 cast-q c = omega (arith, taken c.before, here c.before)
 
-add-k : tie.Need-overflow-add-k invariant-loop decreases-loop
+add-k : tie.Need-overflow_add-k invariant-loop decreases-loop
 add-k c = omega arith
 
-loop-less : tie.Need-loop-smaller invariant-loop decreases-loop
+loop-less : tie.Need-loop-k-smaller invariant-loop decreases-loop
 loop-less c = omega arith
 
-loop-again : tie.Need-loop-preserved invariant-loop decreases-loop
+loop-again : tie.Need-loop-k-preserved invariant-loop decreases-loop
 loop-again c =
-    let l = c.before.before.before in
-    let s = l.before.before.before.before.before.before.before in
-    let a = s.args in
-    let more = c.before.before.loop-test.true in (
+    let a = c.args in
+    let more = c.loop-k-test.true in (
       omega arith,
-      length-set l.loop.area l.loop.k c.before.next.result ∙ l.loop.invariant.1,
-      rw c.before.next.ensures (walking_next a.weights.now a.steps.now a.blocked.now a.latest.now a.table.now a.n a.start (set a.area.now 0 a.start) s.requires.0 l.loop.invariant.2 more (omega (arith, length-set a.area.now 0 a.start, s.requires.1.1))),
+      length-set c.loop-k.area c.loop-k.k c.next-v.result ∙ c.loop-k.invariant.1,
+      rw c.next-v.ensures (walking_next a.weights.now a.steps.now a.blocked.now a.latest.now a.table.now a.n a.start (set a.area.now 0 a.start) c.requires.0 c.loop-k.invariant.2 more (omega (arith, length-set a.area.now 0 a.start, c.requires.1.1))),
     )
 
-same_length : tie.Need-same-length invariant-loop decreases-loop
+same_length : tie.Need-shape_of-area invariant-loop decreases-loop
 same_length c =
-    let a = c.before.before.before.before.before.before.before.before.args in
-    c.before.loop.invariant.1 ∙ length-set a.area.now 0 a.start
+    let a = c.args in
+    c.loop-k.invariant.1 ∙ length-set a.area.now 0 a.start
 
 returns : tie.Need-returns invariant-loop decreases-loop
 returns c =
-    let l = c.before in
-    let s = l.before.before.before.before.before.before.before in
-    let a = s.args in
-    walking_done a.weights.now a.steps.now a.blocked.now a.latest.now a.table.now a.n a.start a.area.now l.loop.invariant.2 c.loop-test.false
+    let a = c.args in
+    walking_done a.weights.now a.steps.now a.blocked.now a.latest.now a.table.now a.n a.start a.area.now c.loop-k.invariant.2 c.loop-k-test.false
 
-cast-count : tie.Need-overflow-cast-count invariant-loop decreases-loop
+cast-count : tie.Need-overflow_cast-count invariant-loop decreases-loop
 cast-count c = omega arith
 
-rem_count : tie.Need-nonzero-rem-count invariant-loop decreases-loop
+rem_count : tie.Need-nonzero_rem-count invariant-loop decreases-loop
 rem_count c = omega arith
 
-pub walk-spec : {M : Type 1} → statement M
-walk-spec =
+pub walk_spec : {M : Type 1} → statement M
+walk_spec =
     tie.close
     (tie.spec
     invariant-loop

@@ -10,75 +10,66 @@ use borrow.Author.Rules.{rules}
 use Rattle.rules.proofs.bind.Statement.{statement}
 use Rattle.rules.proofs.bind.Tie as tie
 
-load-requires : tie.Need-load-requires
+load-requires : tie.Need-load-read-requires
 load-requires c κs = search rules
 
-enum-known-read : tie.Need-enum-known-read
+enum-known-read : tie.Need-enum_known-read
 enum-known-read c = search rules
 
-enum-known-read-2 : tie.Need-enum-known-read-2
+enum-known-read-2 : tie.Need-enum_known-read-in-Read-1
 enum-known-read-2 c = search rules
 
 -- the book
-book : (c : tie.After-read2)
-    → let load = c.before.before in
-    Loaded load.before.before.before.before.before.before.before.args.bytes.now c.read2.given.0.0 load.load.new.1.0 load.load.new.1.1.0 load.load.new.1.1.1.0 load.load.new.1.1.1.1.0
+book : (c : tie.In-Read-2)
+    → Loaded c.args.bytes.now c.in-Read.counts c.load-read.new.1.0 c.load-read.new.1.1.0 c.load-read.new.1.1.1.0 c.load-read.new.1.1.1.1.0
 book c =
-    let load = c.before.before in
-    loaded load.before.before.before.before.before.before.before.args.bytes.now load.load.result c.read2.given.0.0 _ _ _ _ load.load.ensures.0 load.load.ensures.1 c.read2.given.1
+    loaded c.args.bytes.now c.load-read.result c.in-Read.counts _ _ _ _ c.load-read.ensures.0 c.load-read.ensures.1 c.in-Read.is
 
 -- the paths of its rule sets that apply
-gathered : (c : tie.After-gather)
-    → let read = c.before.before.before.before.before.before.before in
-    let F = known read.before.before.before.before.before.before.before.before.before.args.flags (book read).book.sets in
-    (c.gather.result ≡ length F) × (c.gather.new.1.1.1.1.1.0 ≡ written F)
+gathered : (c : tie.After-gather-n)
+    → let F = known c.args.flags (book c.before.before.before.before.before.before.before).book.sets in
+    (c.gather-n.result ≡ length F) × (c.gather-n.new.1.1.1.1.1.0 ≡ written F)
 gathered c =
-    let read = c.before.before.before.before.before.before.before in
-    c.gather.ensures (book read).book (book read).tables.sets
+    c.gather-n.ensures (book c.before.before.before.before.before.before.before).book (book c.before.before.before.before.before.before.before).tables.sets
 
-returns : tie.Need-returns
+returns : tie.Need-returns-then-area-lt-AREA
 returns c =
-    let read = c.before.before in
-    let a = read.before.before.before.before.before.before.before.before.before.args in
-    bind_small a.bytes.now a.flags a.area.now (book read).book (book read).is c.if1.true
+    let a = c.args in
+    bind_small a.bytes.now a.flags a.area.now (book c.before.before).book (book c.before.before).is c.if-area-lt-AREA.true
 
-slice-aggregate-gather : tie.Need-slice-aggregate-gather
+slice-aggregate-gather : tie.Need-slice_bounds-gather-end
 slice-aggregate-gather c = sym (sets-entries (book c.before.before.before.before.before).tables.sets)
 
-slice-aggregate-gather-2 : tie.Need-slice-aggregate-gather-2
+slice-aggregate-gather-2 : tie.Need-slice_bounds-gather-end-in-Read
 slice-aggregate-gather-2 c = search rules
 
-gather-requires : tie.Need-gather-requires
+gather-requires : tie.Need-gather-n-requires
 gather-requires c κs =
     let b = book c.before.before.before.before.before.before in
     ((b.book, b.tables.sets), refl)
 
-slice-aggregate-copy : tie.Need-slice-aggregate-copy
+slice-aggregate-copy : tie.Need-slice_bounds-copy-end
 slice-aggregate-copy c = search rules
 
 copy-requires : tie.Need-copy-requires
 copy-requires c κs = search rules
 
-returns-2 : tie.Need-returns-2
+returns-2 : tie.Need-returns-in-Refused
 returns-2 c =
-    let load = c.before.before.before in
-    let a = load.before.before.before.before.before.before.before.args in
-    bind-refused a.bytes.now a.flags a.area.now _ (answer-refused _ _ (sym load.load.ensures.0 ∙ c.before.read.given.1))
+    let a = c.args in
+    bind-refused a.bytes.now a.flags a.area.now _ (answer-refused _ _ (sym c.load-read.ensures.0 ∙ c.in-Refused.is))
 
-same_length : tie.Need-same-length
+same_length : tie.Need-shape_of-area
 same_length c = search rules
 
-returns-3 : tie.Need-returns-3
+returns-3 : tie.Need-returns-else-area-lt-AREA
 returns-3 c =
-    let copied = c.before.before in
-    let gather = copied.before.before.before.before in
-    let read = gather.before.before.before.before.before.before.before in
-    let a = read.before.before.before.before.before.before.before.before.before.args in
-    let b = book read in
-    bind-known a.bytes.now a.flags a.area.now b.book b.is b.tables.graph.well gather.before.before.before.before.before.if1.false _ _ _ (gathered gather).0 (gathered gather).1 copied.copy.ensures
+    let a = c.args in
+    let b = book c.before.before.before.before.before.before.before.before.before.before.before.before.before in
+    bind-known a.bytes.now a.flags a.area.now b.book b.is b.tables.graph.well c.if-area-lt-AREA.false _ _ _ (gathered c.before.before.before.before.before.before).0 (gathered c.before.before.before.before.before.before).1 c.copy.ensures
 
-pub bind-spec : {M : Type 1} → statement M
-bind-spec =
+pub bind_spec : {M : Type 1} → statement M
+bind_spec =
     tie.close
     (tie.spec
     load-requires

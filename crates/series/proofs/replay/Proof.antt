@@ -14,123 +14,122 @@ use Rattle.series.proofs.Replaying.{Replayed, not-begun, replayed-begin, replaye
 use Rattle.series.proofs.replay.Statement.{statement}
 use Rattle.series.proofs.replay.Tie as tie
 
-abbrev invariant-loop : tie.invariant-loop
+abbrev invariant-loop : tie.invariant-loop-at
 invariant-loop bytes flags start end reports paths₀ walk₀ rec₀ at₀ paths walk rec at =
     ((P W : List ℕ) → Replayed bytes flags start end reports P W (answering rec₀ paths₀ walk₀) at₀ → Replayed bytes flags start end reports P W (answering rec paths walk) at)
     × (length paths ≡ length paths₀)
     × (length walk ≡ length walk₀)
 
-abbrev decreases-loop : tie.decreases-loop
+abbrev decreases-loop : tie.decreases-loop-at
 decreases-loop bytes flags start end reports paths₀ walk₀ rec₀ at₀ paths walk rec at = length reports - at
 
 -- the trials have begun
-started : (c : tie.After-known-told invariant-loop decreases-loop)
-    → let a = c.before.before.before.before.before.before.before.before.before.before.before.before.before.before.args in
-    Replayed a.bytes.now a.flags a.start a.end a.reports.now a.paths.now a.walk.now (answering c.before.begun.given.0.0 c.before.before.before.before.before.before.before.begin.new.1.1.1.1.0 c.before.before.before.before.before.before.before.begin.new.1.1.1.1.1.0) 0
+started : (c : tie.In-Record invariant-loop decreases-loop)
+    → let a = c.args in
+    Replayed a.bytes.now a.flags a.start a.end a.reports.now a.paths.now a.walk.now (answering c.in-Record.first c.begin-begun.new.1.1.1.1.0 c.begin-begun.new.1.1.1.1.1.0) 0
 started c =
-    let a = c.before.before.before.before.before.before.before.before.before.before.before.before.before.before.args in
-    let begin = c.before.before.before.before.before.before.before.begin in
-    replayed-begin a.bytes.now a.flags a.start a.end a.reports.now a.paths.now a.walk.now (answering begin.result begin.new.1.1.1.1.0 begin.new.1.1.1.1.1.0) _ begin.ensures c.before.begun.given.1
+    let a = c.args in
+    let begin = c.begin-begun in
+    replayed-begin a.bytes.now a.flags a.start a.end a.reports.now a.paths.now a.walk.now (answering begin.result begin.new.1.1.1.1.0 begin.new.1.1.1.1.1.0) _ begin.ensures c.in-Record.is
 
 -- some reports have been made
-at-loop : (c : tie.At-loop invariant-loop decreases-loop)
-    → let a = c.before.before.before.before.before.before.before.before.before.before.before.before.before.before.before.args in
-    Replayed a.bytes.now a.flags a.start a.end a.reports.now a.paths.now a.walk.now (answering c.loop.rec c.loop.paths c.loop.walk) c.loop.at
-at-loop c = c.loop.invariant.0 _ _ (started c.before)
+at-loop : (c : tie.At-loop-at invariant-loop decreases-loop)
+    → let a = c.args in
+    Replayed a.bytes.now a.flags a.start a.end a.reports.now a.paths.now a.walk.now (answering c.loop-at.rec c.loop-at.paths c.loop-at.walk) c.loop-at.at
+at-loop c = c.loop-at.invariant.0 _ _ (started c.before)
 
 -- one more has been made
-after-report : (c : tie.After-record-of invariant-loop decreases-loop)
-    → let a = c.before.before.before.before.before.before.before.before.before.before.before.before.before.before.before.before.before.before.before.before.before.before.before.before.before.before.before.args in
-    let make = c.before.before.before.before.before.before.before.before.make in
-    let start = c.before.before.before.before.before.before.before.before.before.before.before.before.before in
+after-report : (c : tie.After-record_of-rec invariant-loop decreases-loop)
+    → let a = c.args in
+    let make = c.make-made in
     (P W : List ℕ)
-    → Replayed a.bytes.now a.flags a.start a.end a.reports.now P W (answering start.before.begun.given.0.0 start.before.before.before.before.before.before.before.begin.new.1.1.1.1.0 start.before.before.before.before.before.before.before.begin.new.1.1.1.1.1.0) 0
-    → Replayed a.bytes.now a.flags a.start a.end a.reports.now P W (answering (record_in c.before.before.made.given.0.0) make.new.1.1.1.1.0 make.new.1.1.1.1.1.0) c.before.before.made.given.0.1.0
-    × (c.before.before.made.given.0.1.0 ≡ c.before.before.before.before.before.before.before.before.before.before.before.before.loop.at + size_of (drop c.before.before.before.before.before.before.before.before.before.before.before.before.loop.at a.reports.now))
+    → Replayed a.bytes.now a.flags a.start a.end a.reports.now P W (answering c.in-Record.first c.begin-begun.new.1.1.1.1.0 c.begin-begun.new.1.1.1.1.1.0) 0
+    → Replayed a.bytes.now a.flags a.start a.end a.reports.now P W (answering (record_in c.in-Report.reported) make.new.1.1.1.1.0 make.new.1.1.1.1.1.0) c.in-Report.next
+    × (c.in-Report.next ≡ c.loop-at.at + size_of (drop c.loop-at.at a.reports.now))
 after-report c P W h =
-    let a = c.before.before.before.before.before.before.before.before.before.before.before.before.before.before.before.before.before.before.before.before.before.before.before.before.before.before.before.args in
-    let make = c.before.before.before.before.before.before.before.before.make in
-    replayed-made a.bytes.now a.flags a.start a.end a.reports.now P W (c.before.before.before.before.before.before.before.before.before.before.before.before.loop.invariant.0 P W h) (answering make.result make.new.1.1.1.1.0 make.new.1.1.1.1.1.0) make.ensures _ _ c.before.before.made.given.1
+    let a = c.args in
+    let make = c.make-made in
+    replayed-made a.bytes.now a.flags a.start a.end a.reports.now P W (c.loop-at.invariant.0 P W h) (answering make.result make.new.1.1.1.1.0 make.new.1.1.1.1.1.0) make.ensures _ _ c.in-Report.is
 
-begin-requires : tie.Need-begin-requires invariant-loop decreases-loop
+begin-requires : tie.Need-begin-begun-requires invariant-loop decreases-loop
 begin-requires c κs = search rules
 
-enum-known-begun : tie.Need-enum-known-begun invariant-loop decreases-loop
+enum-known-begun : tie.Need-enum_known-begun invariant-loop decreases-loop
 enum-known-begun c = search rules
 
-enum_told : tie.Need-enum-told invariant-loop decreases-loop
+enum_told : tie.Need-enum_told-1 invariant-loop decreases-loop
 enum_told c = search rules
 
-same_length : tie.Need-same-length invariant-loop decreases-loop
+same_length : tie.Need-shape_of-paths-in_default invariant-loop decreases-loop
 same_length c = search rules
 
-same-length-2 : tie.Need-same-length-2 invariant-loop decreases-loop
+same-length-2 : tie.Need-shape_of-walk-in_default invariant-loop decreases-loop
 same-length-2 c = search rules
 
-returns : tie.Need-returns invariant-loop decreases-loop
+returns : tie.Need-returns-in_default invariant-loop decreases-loop
 returns c =
-    let a = c.before.before.before.before.before.before.before.before.before.before.before.before.before.args in
-    let begin = c.before.before.before.before.before.before.begin in
-    not-begun a.bytes.now a.flags a.start a.end a.reports.now a.paths.now a.walk.now (answering begin.result begin.new.1.1.1.1.0 begin.new.1.1.1.1.1.0) _ begin.ensures c.enum_told.given.1
+    let a = c.args in
+    let begin = c.begin-begun in
+    not-begun a.bytes.now a.flags a.start a.end a.reports.now a.paths.now a.walk.now (answering begin.result begin.new.1.1.1.1.0 begin.new.1.1.1.1.1.0) _ begin.ensures c.in_default.is
 
-loop-holds : tie.Need-loop-init invariant-loop decreases-loop
+loop-holds : tie.Need-loop-at-init invariant-loop decreases-loop
 loop-holds c =
     (λ P W h. h, refl, refl)
 
-make-requires : tie.Need-make-requires invariant-loop decreases-loop
+make-requires : tie.Need-make-made-requires invariant-loop decreases-loop
 make-requires c κs = search rules
 
-enum-known-made : tie.Need-enum-known-made invariant-loop decreases-loop
+enum-known-made : tie.Need-enum_known-made invariant-loop decreases-loop
 enum-known-made c = search rules
 
-enum-told-2 : tie.Need-enum-told-2 invariant-loop decreases-loop
+enum-told-2 : tie.Need-enum_told-in_default-made invariant-loop decreases-loop
 enum-told-2 c = search rules
 
-same-length-3 : tie.Need-same-length-3 invariant-loop decreases-loop
+same-length-3 : tie.Need-shape_of-paths-in_default-made invariant-loop decreases-loop
 same-length-3 c = search rules
 
-same-length-4 : tie.Need-same-length-4 invariant-loop decreases-loop
+same-length-4 : tie.Need-shape_of-walk-in_default-made invariant-loop decreases-loop
 same-length-4 c = search rules
 
-returns-2 : tie.Need-returns-2 invariant-loop decreases-loop
+returns-2 : tie.Need-returns-in_default-made invariant-loop decreases-loop
 returns-2 c =
-    let a = c.before.before.before.before.before.before.before.before.before.before.before.before.before.before.before.before.before.before.before.before.before.before.before.before.before.args in
-    let make = c.before.before.before.before.before.before.make in
-    replayed-last a.bytes.now a.flags a.start a.end a.reports.now a.paths.now a.walk.now (at-loop c.before.before.before.before.before.before.before.before.before.before) (answering make.result make.new.1.1.1.1.0 make.new.1.1.1.1.1.0) make.ensures c.enum-told2.given.1
+    let a = c.args in
+    let make = c.make-made in
+    replayed-last a.bytes.now a.flags a.start a.end a.reports.now a.paths.now a.walk.now (at-loop c.before.before.before.before.before.before.before.before.before) (answering make.result make.new.1.1.1.1.0 make.new.1.1.1.1.1.0) make.ensures c.in_default-made.is
 
-record-of-requires : tie.Need-record-of-requires invariant-loop decreases-loop
+record-of-requires : tie.Need-record_of-rec-requires invariant-loop decreases-loop
 record-of-requires c κs = search rules
 
-loop-less : tie.Need-loop-smaller invariant-loop decreases-loop
+loop-less : tie.Need-loop-at-smaller invariant-loop decreases-loop
 loop-less c =
-    let a = c.before.before.before.before.before.before.before.before.before.before.before.before.before.before.before.before.before.before.before.before.before.before.before.before.before.before.before.args in
-    let made = after-report c a.paths.now a.walk.now (started c.before.before.before.before.before.before.before.before.before.before.before.before.before) in
-    omega (arith, made.1, size-positive (drop c.before.before.before.before.before.before.before.before.before.before.before.before.loop.at a.reports.now), c.before.before.before.before.before.before.before.before.before.before.before.loop-test.true)
+    let a = c.args in
+    let made = after-report c a.paths.now a.walk.now (started c.before.before.before.before.before.before.before.before.before.before.before) in
+    omega (arith, made.1, size-positive (drop c.loop-at.at a.reports.now), c.loop-at-test.true)
 
-loop-again : tie.Need-loop-preserved invariant-loop decreases-loop
+loop-again : tie.Need-loop-at-preserved invariant-loop decreases-loop
 loop-again c =
-    let a = c.before.before.before.before.before.before.before.before.before.before.before.before.before.before.before.before.before.before.before.before.before.before.before.before.before.before.before.args in
-    let inv = c.before.before.before.before.before.before.before.before.before.before.before.before.loop.invariant in (
+    let a = c.args in
+    let inv = c.loop-at.invariant in (
       λ P W h.
-          subst (λ (r : Record). Replayed a.bytes.now a.flags a.start a.end a.reports.now P W (answering r c.before.before.before.before.before.before.before.before.make.new.1.1.1.1.0 c.before.before.before.before.before.before.before.before.make.new.1.1.1.1.1.0) c.before.before.made.given.0.1.0)
-          (sym c.record_of.ensures) (after-report c P W h).0,
+          subst (λ (r : Record). Replayed a.bytes.now a.flags a.start a.end a.reports.now P W (answering r c.make-made.new.1.1.1.1.0 c.make-made.new.1.1.1.1.1.0) c.in-Report.next)
+          (sym c.record_of-rec.ensures) (after-report c P W h).0,
       omega (arith, inv.1),
       omega (arith, inv.2),
     )
 
-same-length-5 : tie.Need-same-length-5 invariant-loop decreases-loop
+same-length-5 : tie.Need-shape_of-paths invariant-loop decreases-loop
 same-length-5 c = search rules
 
-same-length-6 : tie.Need-same-length-6 invariant-loop decreases-loop
+same-length-6 : tie.Need-shape_of-walk invariant-loop decreases-loop
 same-length-6 c = search rules
 
-returns-3 : tie.Need-returns-3 invariant-loop decreases-loop
+returns-3 : tie.Need-returns invariant-loop decreases-loop
 returns-3 c =
-    let a = c.before.before.before.before.before.before.before.before.before.before.before.before.before.before.before.before.args in
-    replayed-end a.bytes.now a.flags a.start a.end a.reports.now a.paths.now a.walk.now (at-loop c.before) (sym (at-end a.reports.now c.before.loop.at c.loop-test.false))
+    let a = c.args in
+    replayed-end a.bytes.now a.flags a.start a.end a.reports.now a.paths.now a.walk.now (at-loop c.before) (sym (at-end a.reports.now c.loop-at.at c.loop-at-test.false))
 
-pub replay-spec : {M : Type 1} → statement M
-replay-spec =
+pub replay_spec : {M : Type 1} → statement M
+replay_spec =
     tie.close
     (tie.spec
     invariant-loop

@@ -6,29 +6,26 @@ use borrow.Author.Rules.{rules}
 use Rattle.table_cases.proofs.changes.Statement.{statement}
 use Rattle.table_cases.proofs.changes.Tie as tie
 
-abbrev invariant-loop : tie.invariant-loop
+abbrev invariant-loop : tie.invariant-loop-i
 invariant-loop before after i₀ t6 t7 i = (i ≤ 256) × (5 ≡ length t6) × (1 ≡ length t7)
 
-abbrev decreases-loop : tie.decreases-loop
+abbrev decreases-loop : tie.decreases-loop-i
 decreases-loop before after i₀ t6 t7 i = 256 - i
 
-loop-holds : tie.Need-loop-init invariant-loop decreases-loop
+loop-holds : tie.Need-loop-i-init invariant-loop decreases-loop
 loop-holds c = search rules
 
-mul-was : tie.Need-overflow-mul-was invariant-loop decreases-loop
+mul-was : tie.Need-offset_bounds-before-i invariant-loop decreases-loop
 mul-was c = search rules
 
-element-copy-out-was : tie.Need-element-copy-out-was invariant-loop decreases-loop
+element-copy-out-was : tie.Need-bounds-before-i invariant-loop decreases-loop
 element-copy-out-was c = search rules
 
-mul_is : tie.Need-overflow-mul-is invariant-loop decreases-loop
+mul_is : tie.Need-offset_bounds-after-i invariant-loop decreases-loop
 mul_is c = search rules
 
-element-copy-out-is : tie.Need-element-copy-out-is invariant-loop decreases-loop
+element-copy-out-is : tie.Need-bounds-after-i invariant-loop decreases-loop
 element-copy-out-is c = search rules
-
-slice-aggregate-text : tie.Need-slice-aggregate-text invariant-loop decreases-loop
-slice-aggregate-text c = search rules
 
 text-requires : tie.Need-text-requires invariant-loop decreases-loop
 text-requires c κs = search rules
@@ -39,35 +36,32 @@ number-requires c κs = search rules
 value-requires : tie.Need-value-requires invariant-loop decreases-loop
 value-requires c κs = search rules
 
-number-requires-2 : tie.Need-number-requires-2 invariant-loop decreases-loop
+number-requires-2 : tie.Need-number-requires-then-was-is invariant-loop decreases-loop
 number-requires-2 c κs = search rules
 
-value-requires-2 : tie.Need-value-requires-2 invariant-loop decreases-loop
+value-requires-2 : tie.Need-value-requires-then-was-is invariant-loop decreases-loop
 value-requires-2 c κs = search rules
 
-number-requires-3 : tie.Need-number-requires-3 invariant-loop decreases-loop
+number-requires-3 : tie.Need-number-requires-then-was-is-2 invariant-loop decreases-loop
 number-requires-3 c κs = search rules
 
-slice-aggregate-text-2 : tie.Need-slice-aggregate-text-2 invariant-loop decreases-loop
-slice-aggregate-text-2 c = search rules
-
-text-requires-2 : tie.Need-text-requires-2 invariant-loop decreases-loop
+text-requires-2 : tie.Need-text-requires-then-was-is invariant-loop decreases-loop
 text-requires-2 c κs = search rules
 
-add-i : tie.Need-overflow-add-i invariant-loop decreases-loop
+add-i : tie.Need-overflow_step-i invariant-loop decreases-loop
 add-i c = search rules
 
-loop-less : tie.Need-loop-smaller invariant-loop decreases-loop
+loop-less : tie.Need-loop-i-smaller invariant-loop decreases-loop
 loop-less c = search rules
 
-loop-again : tie.Need-loop-preserved invariant-loop decreases-loop
+loop-again : tie.Need-loop-i-preserved invariant-loop decreases-loop
 loop-again c = search rules
 
 returns : tie.Need-returns invariant-loop decreases-loop
 returns c = search rules
 
-pub changes-spec : {M : Type 1} → statement M
-changes-spec =
+pub changes_spec : {M : Type 1} → statement M
+changes_spec =
     tie.close
     (tie.spec
     invariant-loop
@@ -77,14 +71,12 @@ changes-spec =
     element-copy-out-was
     mul_is
     element-copy-out-is
-    slice-aggregate-text
     text-requires
     number-requires
     value-requires
     number-requires-2
     value-requires-2
     number-requires-3
-    slice-aggregate-text-2
     text-requires-2
     add-i
     loop-less

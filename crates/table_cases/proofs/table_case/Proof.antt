@@ -8,97 +8,97 @@ use Rattle.table_cases.proofs.table_case.Tie as tie
 refusal-requires : tie.Need-refusal-requires
 refusal-requires c κs = search rules
 
-returns : tie.Need-returns
+returns : tie.Need-returns-then-size-lt-HEAD
 returns c = search rules
 
-word-requires : tie.Need-word-requires
+word-requires : tie.Need-word-paths_given-requires
 word-requires c κs = search rules
 
-word-requires-2 : tie.Need-word-requires-2
+word-requires-2 : tie.Need-word-requires
 word-requires-2 c κs = search rules
 
-add-paths-size : tie.Need-overflow-add-paths-size
+add-paths-size : tie.Need-overflow_add-paths_size
 add-paths-size c = search rules
 
-word-requires-3 : tie.Need-word-requires-3
+word-requires-3 : tie.Need-word-table_given-requires
 word-requires-3 c κs = search rules
 
-word-requires-4 : tie.Need-word-requires-4
+word-requires-4 : tie.Need-word-requires-2
 word-requires-4 c κs = search rules
 
-add-table-size : tie.Need-overflow-add-table-size
+add-table-size : tie.Need-overflow_add-table_size
 add-table-size c = search rules
 
-add-table-from : tie.Need-overflow-add-table-from
+add-table-from : tie.Need-overflow_add-table_from
 add-table-from c = search rules
 
-mul-book-from : tie.Need-overflow-mul-book-from
+mul-book-from : tie.Need-overflow_mul-book_from
 mul-book-from c = search rules
 
-add-book-from : tie.Need-overflow-add-book-from
+add-book-from : tie.Need-overflow_add-book_from
 add-book-from c = search rules
 
-refusal-requires-2 : tie.Need-refusal-requires-2
+refusal-requires-2 : tie.Need-refusal-requires-then-size-book_from
 refusal-requires-2 c κs = search rules
 
-returns-2 : tie.Need-returns-2
+returns-2 : tie.Need-returns-then-size-book_from
 returns-2 c = search rules
 
-refusal-requires-3 : tie.Need-refusal-requires-3
+refusal-requires-3 : tie.Need-refusal-requires-then-paths_size-gt-MOST_AREA
 refusal-requires-3 c κs = search rules
 
-returns-3 : tie.Need-returns-3
+returns-3 : tie.Need-returns-then-paths_size-gt-MOST_AREA
 returns-3 c = search rules
 
-refusal-requires-4 : tie.Need-refusal-requires-4
+refusal-requires-4 : tie.Need-refusal-requires-then-table_size-gt-MOST_TABLE
 refusal-requires-4 c κs = search rules
 
-returns-4 : tie.Need-returns-4
+returns-4 : tie.Need-returns-then-table_size-gt-MOST_TABLE
 returns-4 c = search rules
 
-shared-slice-read-paths : tie.Need-shared-slice-read-paths
+shared-slice-read-paths : tie.Need-bounds-input-13
 shared-slice-read-paths c = search rules
 
-slice-aggregate-copy : tie.Need-slice-aggregate-copy
+slice-aggregate-copy : tie.Need-slice_bounds-copy-end
 slice-aggregate-copy c = search rules
 
 copy-requires : tie.Need-copy-requires
 copy-requires c κs = search rules
 
-four-requires : tie.Need-four-requires
+four-requires : tie.Need-four-more-requires
 four-requires c κs = search rules
 
-slice-aggregate-numbers : tie.Need-slice-aggregate-numbers
+slice-aggregate-numbers : tie.Need-slice_bounds-numbers-end
 slice-aggregate-numbers c = search rules
 
 numbers-requires : tie.Need-numbers-requires
 numbers-requires c κs = search rules
 
-sub-make : tie.Need-overflow-sub-make
+sub-make : tie.Need-slice_bounds-make-count
 sub-make c = search rules
 
-part-make-start : tie.Need-slice-bounds-make-start
+part-make-start : tie.Need-slice_bounds-make-start
 part-make-start c = search rules
 
-part-make-end : tie.Need-slice-bounds-make-end
+part-make-end : tie.Need-slice_bounds-make-end
 part-make-end c = search rules
 
-array-share-prefix-paths : tie.Need-array-share-prefix-paths
+array-share-prefix-paths : tie.Need-slice_bounds-paths-end
 array-share-prefix-paths c = search rules
 
-slice-aggregate-make : tie.Need-slice-aggregate-make
+slice-aggregate-make : tie.Need-slice_bounds-make-end-2
 slice-aggregate-make c = sym (length-take-le _ _ (array-share-prefix-paths c.before))
 
 eight-requires : tie.Need-eight-requires
 eight-requires c κs = search rules
 
-shared-slice-read-make : tie.Need-shared-slice-read-make
+shared-slice-read-make : tie.Need-bounds-input-0
 shared-slice-read-make c = search rules
 
-array-borrow-prefix-table : tie.Need-array-borrow-prefix-table
+array-borrow-prefix-table : tie.Need-slice_bounds-table-end
 array-borrow-prefix-table c = search rules
 
-slice-aggregate-make-2 : tie.Need-slice-aggregate-make-2
+slice-aggregate-make-2 : tie.Need-slice_bounds-make-end-3
 slice-aggregate-make-2 c = sym (length-take-le _ _ (array-borrow-prefix-table c.before))
 
 make-requires : tie.Need-make-requires
@@ -107,11 +107,11 @@ make-requires c κs = search rules
 changes-requires : tie.Need-changes-requires
 changes-requires c κs = search rules
 
-returns-5 : tie.Need-returns-5
+returns-5 : tie.Need-returns
 returns-5 c = search rules
 
-pub table-case-spec : {M : Type 1} → statement M
-table-case-spec =
+pub table_case_spec : {M : Type 1} → statement M
+table_case_spec =
     tie.close
     (tie.spec
     refusal-requires

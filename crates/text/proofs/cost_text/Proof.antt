@@ -13,47 +13,32 @@ use Rattle.text.proofs.cost_text.Tie as tie
 regroup : (a b c d e : List ℕ) → a ++ b ++ (c ++ d) ++ e ≡ a ++ b ++ c ++ d ++ e
 regroup a b c d e = ap (λ x. x ++ e) (sym (append_assoc (a ++ b) c d))
 
-slice-aggregate-named : tie.Need-slice-aggregate-named
-slice-aggregate-named c = search rules
-
-named-requires : tie.Need-named-requires
+named-requires : tie.Need-named-litres-requires
 named-requires c κs = search rules
 
-slice-aggregate-named-2 : tie.Need-slice-aggregate-named-2
-slice-aggregate-named-2 c = search rules
-
-named-requires-2 : tie.Need-named-requires-2
+named-requires-2 : tie.Need-named-changes-requires
 named-requires-2 c κs = search rules
-
-slice-aggregate-word : tie.Need-slice-aggregate-word
-slice-aggregate-word c = search rules
 
 word-requires : tie.Need-word-requires
 word-requires c κs = search rules
 
-same_length : tie.Need-same-length
+same_length : tie.Need-shape_of-out
 same_length c = search rules
 
 returns : tie.Need-returns
 returns c =
-    let line = c.before.before in
-    let changes = line.before.before.before.before.before in
-    let litres = changes.before.before.before.before.before in
-    let a = litres.before.before.before.before.args in (
+    let a = c.args in (
       wrote_as (regroup Text.litres (decimal a.weight) Text.changes (decimal a.hops) Text.line_feed)
-          (wrote_then (wrote_then litres.named.ensures.0 changes.named2.ensures.0) line.word.ensures),
-      omega (arith, line.word.ensures.place, changes.named2.ensures.1, litres.named.ensures.1),
+          (wrote_then (wrote_then c.named-litres.ensures.0 c.named-changes.ensures.0) c.word.ensures),
+      omega (arith, c.word.ensures.place, c.named-changes.ensures.1, c.named-litres.ensures.1),
     )
 
-pub cost-text-spec : {M : Type 1} → statement M
-cost-text-spec =
+pub cost_text_spec : {M : Type 1} → statement M
+cost_text_spec =
     tie.close
     (tie.spec
-    slice-aggregate-named
     named-requires
-    slice-aggregate-named-2
     named-requires-2
-    slice-aggregate-word
     word-requires
     same_length
     returns)

@@ -12,60 +12,55 @@ use Rattle.text.specs.Writing.{Wrote, wrote_none, wrote_then, wrote_as, wrote-le
 use Rattle.text.proofs.followed.Statement.{statement}
 use Rattle.text.proofs.followed.Tie as tie
 
-abbrev invariant-loop : tie.invariant-loop
+abbrev invariant-loop : tie.invariant-loop-i
 invariant-loop walk out₀ at next₀ i₀ out next i = (i ≤ length walk) × (next ≤ at + i * 4) × Wrote (Text.followed (take i walk)) at out₀ next out
 
-abbrev decreases-loop : tie.decreases-loop
+abbrev decreases-loop : tie.decreases-loop-i
 decreases-loop walk out₀ at next₀ i₀ out next i = length walk - i
 
 -- the bytes that are written to are as many as ever
-kept : (c : tie.At-loop invariant-loop decreases-loop) → length c.loop.out ≡ length c.before.before.before.args.out.now
-kept c = wrote-length c.loop.invariant.2
+kept : (c : tie.At-loop-i invariant-loop decreases-loop) → length c.loop-i.out ≡ length c.args.out.now
+kept c = wrote-length c.loop-i.invariant.2
 
-loop-holds : tie.Need-loop-init invariant-loop decreases-loop
+loop-holds : tie.Need-loop-i-init invariant-loop decreases-loop
 loop-holds c =
-    let a = c.before.before.args in
-    (omega arith, omega arith, wrote_as (sym followed-none) (wrote_none a.at a.out.now (omega (arith, c.before.before.requires))))
+    let a = c.args in
+    (omega arith, omega arith, wrote_as (sym followed-none) (wrote_none a.at a.out.now (omega (arith, c.requires))))
 
-shared-slice-read-vertex : tie.Need-shared-slice-read-vertex invariant-loop decreases-loop
+shared-slice-read-vertex : tie.Need-bounds-walk-i invariant-loop decreases-loop
 shared-slice-read-vertex c = search rules
 
-vertex-requires : tie.Need-vertex-requires invariant-loop decreases-loop
+vertex-requires : tie.Need-vertex-next-requires invariant-loop decreases-loop
 vertex-requires c κs =
-    let here = c.before.before.before in
-    omega (arith, kept here, here.before.before.before.requires, here.loop.invariant.1, c.before.before.loop-test.true)
+    omega (arith, kept c.before.before.before, c.requires, c.loop-i.invariant.1, c.loop-i-test.true)
 
-add-i : tie.Need-overflow-add-i invariant-loop decreases-loop
+add-i : tie.Need-overflow_add-i invariant-loop decreases-loop
 add-i c = search rules
 
-loop-less : tie.Need-loop-smaller invariant-loop decreases-loop
+loop-less : tie.Need-loop-i-smaller invariant-loop decreases-loop
 loop-less c = search rules
 
-loop-again : tie.Need-loop-preserved invariant-loop decreases-loop
+loop-again : tie.Need-loop-i-preserved invariant-loop decreases-loop
 loop-again c =
-    let call = c.before.before in
-    let turn = call.before.before.before in
-    let here = turn.before in
-    let a = here.before.before.before.args in (
+    let a = c.args in (
       omega arith,
-      omega (arith, call.vertex.ensures.1, here.loop.invariant.1),
-      wrote_as (sym (followed-next a.walk.now here.loop.i turn.loop-test.true) ∙ ap (λ k. Text.followed (take k a.walk.now)) (sym (add-one here.loop.i)))
-          (wrote_then here.loop.invariant.2 call.vertex.ensures.0),
+      omega (arith, c.vertex-next.ensures.1, c.loop-i.invariant.1),
+      wrote_as (sym (followed-next a.walk.now c.loop-i.i c.loop-i-test.true) ∙ ap (λ k. Text.followed (take k a.walk.now)) (sym (add-one c.loop-i.i)))
+          (wrote_then c.loop-i.invariant.2 c.vertex-next.ensures.0),
     )
 
-same_length : tie.Need-same-length invariant-loop decreases-loop
+same_length : tie.Need-shape_of-out invariant-loop decreases-loop
 same_length c = kept c.before
 
 returns : tie.Need-returns invariant-loop decreases-loop
 returns c =
-    let here = c.before in
-    let a = here.before.before.before.args in (
-      wrote_as (ap Text.followed (take_all here.loop.i a.walk.now c.loop-test.false)) here.loop.invariant.2,
-      omega (arith, here.loop.invariant.0, here.loop.invariant.1),
+    let a = c.args in (
+      wrote_as (ap Text.followed (take_all c.loop-i.i a.walk.now c.loop-i-test.false)) c.loop-i.invariant.2,
+      omega (arith, c.loop-i.invariant.0, c.loop-i.invariant.1),
     )
 
-pub followed-spec : {M : Type 1} → statement M
-followed-spec =
+pub followed_spec : {M : Type 1} → statement M
+followed_spec =
     tie.close
     (tie.spec
     invariant-loop

@@ -6,45 +6,33 @@ use Rattle.text.specs.Writing.{wrote_as, wrote_then}
 use Rattle.text.proofs.refusal_text.Statement.{statement}
 use Rattle.text.proofs.refusal_text.Tie as tie
 
-number-of-requires : tie.Need-number-of-requires
+number-of-requires : tie.Need-number_of-told-requires
 number-of-requires c κs = search rules
 
-slice-aggregate-named : tie.Need-slice-aggregate-named
-slice-aggregate-named c = search rules
-
-named-requires : tie.Need-named-requires
+named-requires : tie.Need-named-number-requires
 named-requires c κs = search rules
 
-place-text-requires : tie.Need-place-text-requires
+place-text-requires : tie.Need-place_text-place-requires
 place-text-requires c κs = search rules
-
-slice-aggregate-word : tie.Need-slice-aggregate-word
-slice-aggregate-word c = search rules
 
 word-requires : tie.Need-word-requires
 word-requires c κs = search rules
 
-same_length : tie.Need-same-length
+same_length : tie.Need-shape_of-out
 same_length c = search rules
 
 returns : tie.Need-returns
 returns c =
-    let last = c.before.before in
-    let place = last.before.before.before.before.before in
-    let number = place.before.before.before.before in
-    let told = number.before.before.before in
-    wrote_as (ap numbered_text told.number_of.ensures)
-    (wrote_then (wrote_then number.named.ensures.0 place.place-text.ensures.0) last.word.ensures)
+    wrote_as (ap numbered_text c.number_of-told.ensures)
+    (wrote_then (wrote_then c.named-number.ensures.0 c.place_text-place.ensures.0) c.word.ensures)
 
-pub refusal-text-spec : {M : Type 1} → statement M
-refusal-text-spec =
+pub refusal_text_spec : {M : Type 1} → statement M
+refusal_text_spec =
     tie.close
     (tie.spec
     number-of-requires
-    slice-aggregate-named
     named-requires
     place-text-requires
-    slice-aggregate-word
     word-requires
     same_length
     returns)

@@ -8,30 +8,32 @@ use Rattle.text.specs.Writing.{wrote-byte, wrote_then}
 use Rattle.text.proofs.vertex.Statement.{statement}
 use Rattle.text.proofs.vertex.Tie as tie
 
-slice-write-out : tie.Need-slice-write-out
+slice-write-out : tie.Need-bounds-out-at
 slice-write-out c = search rules
 
-add-decimal : tie.Need-overflow-add-decimal
+add-decimal : tie.Need-overflow_add-at
 add-decimal c = search rules
 
 decimal-requires : tie.Need-decimal-requires
 decimal-requires c κs =
-    let start = c.before.before in
-    simp length-set (omega (arith, start.requires, decimal-byte start.args.v start.ranges.v.fits))
+    simp length-set (omega (arith, c.requires, decimal-byte c.args.v c.ranges.v.fits))
 
-same_length : tie.Need-same-length
+same_length : tie.Need-shape_of-out
 same_length c =
-    let call = c.before.before in
-    let a = call.before.before.before.args in
-    call.decimal.auto.1.0 ∙ length-set a.out.now a.at 32
+    let a = c.args in
+    c.decimal.auto.1.0 ∙ length-set a.out.now a.at 32
 
 returns : tie.Need-returns
 returns c =
-    let call = c.before.before in
-    let start = call.before.before.before in (
-      wrote_then (wrote-byte 32 start.args.at start.args.out.now (omega (arith, start.requires))) call.decimal.ensures,
-      omega (arith, call.decimal.ensures.place, decimal-byte start.args.v start.ranges.v.fits),
+    (
+      wrote_then (wrote-byte 32 c.args.at c.args.out.now (omega (arith, c.requires))) c.decimal.ensures,
+      omega (arith, c.decimal.ensures.place, decimal-byte c.args.v c.ranges.v.fits),
     )
 
-pub vertex-spec : {M : Type 1} → statement M
-vertex-spec = tie.close (tie.spec slice-write-out add-decimal decimal-requires same_length returns)
+pub vertex_spec : {M : Type 1} → statement M
+vertex_spec = tie.close (tie.spec
+    slice-write-out
+    add-decimal
+    decimal-requires
+    same_length
+    returns)

@@ -13,50 +13,44 @@ use Rattle.text.proofs.vertices.Statement.{statement}
 use Rattle.text.proofs.vertices.Tie as tie
 
 -- the first vertex is a byte
-byte : (c : tie.After-shared-slice-known2) → get_or c.before.before.before.args.walk.now 0 0 < 256
-byte c = (c.shared-slice-known2.given 0).fits
+byte : (c : tie.After-shared_slice_known-2-1) → get_or c.args.walk.now 0 0 < 256
+byte c = (c.shared_slice_known-2-1.given 0).fits
 
-shared-slice-read-decimal : tie.Need-shared-slice-read-decimal
+shared-slice-read-decimal : tie.Need-bounds-walk-0
 shared-slice-read-decimal c = search rules
 
-cast-decimal : tie.Need-overflow-cast-decimal
+cast-decimal : tie.Need-overflow_cast-walk
 cast-decimal c = omega (arith, byte c)
 
-decimal-requires : tie.Need-decimal-requires
+decimal-requires : tie.Need-decimal-next-requires
 decimal-requires c κs =
-    let start = c.before.before.before.before in
-    omega (arith, start.requires.0, start.requires.1, decimal-byte _ (byte c.before))
+    omega (arith, c.requires.0, c.requires.1, decimal-byte _ (byte c.before))
 
-sub-followed : tie.Need-overflow-sub-followed
+sub-followed : tie.Need-slice_bounds-followed-count
 sub-followed c = search rules
 
-part-followed-start : tie.Need-slice-bounds-followed-start
+part-followed-start : tie.Need-slice_bounds-followed-start
 part-followed-start c = search rules
 
-part-followed-end : tie.Need-slice-bounds-followed-end
+part-followed-end : tie.Need-slice_bounds-followed-end
 part-followed-end c = search rules
 
 followed-requires : tie.Need-followed-requires
 followed-requires c κs =
-    let first = c.before.before.before.before in
-    let start = first.before.before.before.before.before in
-    omega (arith, first.decimal.ensures.place, first.decimal.auto.1.0, decimal-byte _ (byte first.before.before), start.requires.0, start.requires.1, part_length 1 start.args.walk.now)
+    omega (arith, c.decimal-next.ensures.place, c.decimal-next.auto.1.0, decimal-byte _ (byte c.before.before.before.before.before.before), c.requires.0, c.requires.1, part_length 1 c.args.walk.now)
 
-same_length : tie.Need-same-length
+same_length : tie.Need-shape_of-out
 same_length c = search rules
 
 returns : tie.Need-returns
 returns c =
-    let call = c.before.before in
-    let first = call.before.before.before.before.before in
-    let start = first.before.before.before.before.before in
-    let w = start.args.walk.now in (
-      wrote_as (ap (λ x. decimal (get_or w 0 0) ++ followed x) (part_rest 1 w) ∙ vertices-split w start.requires.0) (wrote_then first.decimal.ensures call.followed.ensures.0),
-      omega (arith, first.decimal.ensures.place, call.followed.ensures.1, decimal-byte _ (byte first.before.before), start.requires.0, part_length 1 w),
+    let w = c.args.walk.now in (
+      wrote_as (ap (λ x. decimal (get_or w 0 0) ++ followed x) (part_rest 1 w) ∙ vertices-split w c.requires.0) (wrote_then c.decimal-next.ensures c.followed.ensures.0),
+      omega (arith, c.decimal-next.ensures.place, c.followed.ensures.1, decimal-byte _ (byte c.before.before.before.before.before.before.before.before.before), c.requires.0, part_length 1 w),
     )
 
-pub vertices-spec : {M : Type 1} → statement M
-vertices-spec =
+pub vertices_spec : {M : Type 1} → statement M
+vertices_spec =
     tie.close
     (tie.spec
     shared-slice-read-decimal

@@ -15,104 +15,83 @@ use borrow.Author.Rules.{rules}
 use Rattle.walk_check.proofs.check.Statement.{statement}
 use Rattle.walk_check.proofs.check.Tie as tie
 
-load-requires : tie.Need-load-requires
+load-requires : tie.Need-load-read-requires
 load-requires c κs = search rules
 
-enum-known-read : tie.Need-enum-known-read
+enum-known-read : tie.Need-enum_known-read
 enum-known-read c = search rules
 
-enum-known-read-2 : tie.Need-enum-known-read-2
+enum-known-read-2 : tie.Need-enum_known-read-in-Read-1
 enum-known-read-2 c = search rules
 
 -- the book
-book : (c : tie.After-read2)
-    → let load = c.before.before in
-    Loaded load.before.before.before.before.before.before.before.before.args.bytes.now c.read2.given.0.0 load.load.new.1.0 load.load.new.1.1.0 load.load.new.1.1.1.0 load.load.new.1.1.1.1.0
+book : (c : tie.In-Read-2)
+    → Loaded c.args.bytes.now c.in-Read.counts c.load-read.new.1.0 c.load-read.new.1.1.0 c.load-read.new.1.1.1.0 c.load-read.new.1.1.1.1.0
 book c =
-    let load = c.before.before in
-    loaded load.before.before.before.before.before.before.before.before.args.bytes.now load.load.result c.read2.given.0.0 _ _ _ _ load.load.ensures.0 load.load.ensures.1 c.read2.given.1
+    loaded c.args.bytes.now c.load-read.result c.in-Read.counts _ _ _ _ c.load-read.ensures.0 c.load-read.ensures.1 c.in-Read.is
 
 -- the test of the area
 valid-is : (c : tie.After-valid) (x : Bool) → c.valid.result ≡ x
-    → let read = c.before.before.before in
-    let a = read.before.before.before.before.before.before.before.before.before.before.args in
-    valid (book read).book.count a.area.now a.count ≡ x
+    → let a = c.args in
+    valid (book c.before.before.before).book.count a.area.now a.count ≡ x
 valid-is c x e =
-    let read = c.before.before.before in
-    let a = read.before.before.before.before.before.before.before.before.before.before.args in
-    ap (λ n. valid n a.area.now a.count) (sym (book read).tables.graph.vertices_are) ∙ sym c.valid.ensures ∙ e
+    let a = c.args in
+    ap (λ n. valid n a.area.now a.count) (sym (book c.before.before.before).tables.graph.vertices_are) ∙ sym c.valid.ensures ∙ e
 
 -- the test of the walk
-walked : (c : tie.After-is-walk) (x : Bool) → c.is-walk.result ≡ x
-    → let read = c.before.before.before.before.before.before in
-    let a = read.before.before.before.before.before.before.before.before.before.before.args in
-    checkable (graph (book read).book) a.walk.now ≡ x
+walked : (c : tie.After-is_walk) (x : Bool) → c.is_walk.result ≡ x
+    → let a = c.args in
+    checkable (graph (book c.before.before.before.before.before.before).book) a.walk.now ≡ x
 walked c x e =
     let b = book c.before.before.before.before.before.before in
-    sym (c.is-walk.ensures b.book b.tables.graph) ∙ e
+    sym (c.is_walk.ensures b.book b.tables.graph) ∙ e
 
-returns : tie.Need-returns
+returns : tie.Need-returns-then-area-lt-AREA
 returns c =
-    let read = c.before.before in
-    let a = read.before.before.before.before.before.before.before.before.before.before.args in
-    check-fails a.bytes.now a.area.now a.count a.walk.now (book read).book (book read).is (here (lt-leb _ _ c.if1.true))
+    let a = c.args in
+    check-fails a.bytes.now a.area.now a.count a.walk.now (book c.before.before).book (book c.before.before).is (here (lt-leb _ _ c.if-area-lt-AREA.true))
 
 valid-requires : tie.Need-valid-requires
 valid-requires c κs = search rules
 
-returns-2 : tie.Need-returns-2
+returns-2 : tie.Need-returns-then-not-valid
 returns-2 c =
-    let valid = c.before in
-    let read = valid.before.before.before in
-    let a = read.before.before.before.before.before.before.before.before.before.before.args in
-    check-fails a.bytes.now a.area.now a.count a.walk.now (book read).book (book read).is
-    (later (le-leb _ _ valid.before.if1.false) (here (valid-is valid _ (not-true valid.valid.result c.if2.true))))
+    let a = c.args in
+    check-fails a.bytes.now a.area.now a.count a.walk.now (book c.before.before.before.before).book (book c.before.before.before.before).is
+    (later (le-leb _ _ c.if-area-lt-AREA.false) (here (valid-is c.before _ (not-true c.valid.result c.if-not-valid.true-raw))))
 
-is-walk-requires : tie.Need-is-walk-requires
+is-walk-requires : tie.Need-is_walk-requires
 is-walk-requires c κs = let b = book c.before.before.before.before.before in (b.book, b.tables.graph)
 
-returns-3 : tie.Need-returns-3
+returns-3 : tie.Need-returns-then-not-is_walk
 returns-3 c =
-    let walk = c.before in
-    let else2 = walk.before.before in
-    let valid = else2.before in
-    let read = valid.before.before.before in
-    let a = read.before.before.before.before.before.before.before.before.before.before.args in
-    check-fails a.bytes.now a.area.now a.count a.walk.now (book read).book (book read).is
-    (later (le-leb _ _ valid.before.if1.false)
-    (later (valid-is valid _ (not-false valid.valid.result else2.if2.false)) (here (walked walk _ (not-true walk.is-walk.result c.if3.true)))))
+    let a = c.args in
+    check-fails a.bytes.now a.area.now a.count a.walk.now (book c.before.before.before.before.before.before.before).book (book c.before.before.before.before.before.before.before).is
+    (later (le-leb _ _ c.if-area-lt-AREA.false)
+    (later (valid-is c.before.before.before.before _ (not-false c.valid.result c.if-not-valid.false-raw)) (here (walked c.before _ (not-true c.is_walk.result c.if-not-is_walk.true-raw)))))
 
-first-occurrence-requires : tie.Need-first-occurrence-requires
+first-occurrence-requires : tie.Need-first_occurrence-requires
 first-occurrence-requires c κs =
-    let else2 = c.before.before.before in
-    let valid = else2.before in
-    let read = valid.before.before.before in
-    let a = read.before.before.before.before.before.before.before.before.before.before.args in
-    let fits = valid-fits (book read).book.count a.area.now a.count (valid-is valid _ (not-false valid.valid.result else2.if2.false)) in
-    (omega (arith, fits.0, valid.before.if1.false), fits.1)
+    let a = c.args in
+    let fits = valid-fits (book c.before.before.before.before.before.before.before).book.count a.area.now a.count (valid-is c.before.before.before.before _ (not-false c.valid.result c.if-not-valid.false-raw)) in
+    (omega (arith, fits.0, c.if-area-lt-AREA.false), fits.1)
 
-returns-4 : tie.Need-returns-4
+returns-4 : tie.Need-returns-in-Refused
 returns-4 c =
-    let load = c.before.before.before in
-    let a = load.before.before.before.before.before.before.before.before.args in
-    check-refused a.bytes.now a.area.now a.count a.walk.now _ (answer-refused _ _ (sym load.load.ensures.0 ∙ c.before.read.given.1))
+    let a = c.args in
+    check-refused a.bytes.now a.area.now a.count a.walk.now _ (answer-refused _ _ (sym c.load-read.ensures.0 ∙ c.in-Refused.is))
 
-returns-5 : tie.Need-returns-5
+returns-5 : tie.Need-returns-else-not-is_walk
 returns-5 c =
-    let else3 = c.before in
-    let walk = else3.before in
-    let else2 = walk.before.before in
-    let valid = else2.before in
-    let read = valid.before.before.before in
-    let a = read.before.before.before.before.before.before.before.before.before.before.args in
-    c.first-occurrence.ensures
-    ∙ check_done a.bytes.now a.area.now a.count a.walk.now (book read).book (book read).is (
-      le-leb _ _ valid.before.if1.false,
-      (valid-is valid _ (not-false valid.valid.result else2.if2.false), (walked walk _ (not-false walk.is-walk.result else3.if3.false), tt)),
+    let a = c.args in
+    c.first_occurrence.ensures
+    ∙ check_done a.bytes.now a.area.now a.count a.walk.now (book c.before.before.before.before.before.before.before.before).book (book c.before.before.before.before.before.before.before.before).is (
+      le-leb _ _ c.if-area-lt-AREA.false,
+      (valid-is c.before.before.before.before.before _ (not-false c.valid.result c.if-not-valid.false-raw), (walked c.before.before _ (not-false c.is_walk.result c.if-not-is_walk.false-raw), tt)),
     )
 
-pub check-spec : {M : Type 1} → statement M
-check-spec =
+pub check_spec : {M : Type 1} → statement M
+check_spec =
     tie.close
     (tie.spec
     load-requires

@@ -8,39 +8,47 @@ use Prim.Native.Nat.{◌-◌}
 use Rattle.book.proofs.field.are_vertices.Statement.{statement}
 use Rattle.book.proofs.field.are_vertices.Tie as tie
 
-abbrev invariant-loop : tie.invariant-loop
+abbrev invariant-loop : tie.invariant-loop-i
 invariant-loop bytes from to vertices i₀ i = are_vertices vertices (slice i to bytes) ≡ are_vertices vertices (slice from to bytes)
 
-abbrev decreases-loop : tie.decreases-loop
+abbrev decreases-loop : tie.decreases-loop-i
 decreases-loop bytes from to vertices i₀ i = to - i
 
-loop-holds : tie.Need-loop-init invariant-loop decreases-loop
+loop-holds : tie.Need-loop-i-init invariant-loop decreases-loop
 loop-holds c = refl
 
-shared-slice-read-wide : tie.Need-shared-slice-read-wide invariant-loop decreases-loop
+shared-slice-read-wide : tie.Need-bounds-bytes-i invariant-loop decreases-loop
 shared-slice-read-wide c = omega arith
 
 wide-requires : tie.Need-wide-requires invariant-loop decreases-loop
 wide-requires c κs = tt
 
-returns : tie.Need-returns invariant-loop decreases-loop
-returns c = let here = c.before.before.before in
-    sym (vertices-high _ _ _ _ here.loop-test.true here.before.before.before.requires (omega arith)) ∙ here.before.loop.invariant
+returns : tie.Need-returns-then-vertices-wide invariant-loop decreases-loop
+returns c = sym (vertices-high _ _ _ _ c.loop-i-test.true c.requires (omega arith)) ∙ c.loop-i.invariant
 
-add-i : tie.Need-overflow-add-i invariant-loop decreases-loop
+add-i : tie.Need-overflow_add-i invariant-loop decreases-loop
 add-i c = omega arith
 
-loop-less : tie.Need-loop-smaller invariant-loop decreases-loop
+loop-less : tie.Need-loop-i-smaller invariant-loop decreases-loop
 loop-less c = omega arith
 
-loop-again : tie.Need-loop-preserved invariant-loop decreases-loop
-loop-again c = let here = c.before.before.before in
-    sym (vertices-next _ _ _ _ here.loop-test.true here.before.before.before.requires (omega arith)) ∙ here.before.loop.invariant
+loop-again : tie.Need-loop-i-preserved invariant-loop decreases-loop
+loop-again c = sym (vertices-next _ _ _ _ c.loop-i-test.true c.requires (omega arith)) ∙ c.loop-i.invariant
 
-returns-2 : tie.Need-returns-2 invariant-loop decreases-loop
-returns-2 c = sym (vertices_past _ _ _ _ c.loop-test.false) ∙ c.before.loop.invariant
+returns-2 : tie.Need-returns invariant-loop decreases-loop
+returns-2 c = sym (vertices_past _ _ _ _ c.loop-i-test.false) ∙ c.loop-i.invariant
 
-pub are-vertices-spec : {M : Type 1} → statement M
-are-vertices-spec =
+pub are_vertices_spec : {M : Type 1} → statement M
+are_vertices_spec =
     tie.close
-    (tie.spec invariant-loop decreases-loop loop-holds shared-slice-read-wide wide-requires returns add-i loop-less loop-again returns-2)
+    (tie.spec
+    invariant-loop
+    decreases-loop
+    loop-holds
+    shared-slice-read-wide
+    wide-requires
+    returns
+    add-i
+    loop-less
+    loop-again
+    returns-2)

@@ -13,63 +13,60 @@ use Rattle.book.proofs.ArcField.{arc_improper, arc-repeated, arc-added}
 use Rattle.book.proofs.field.enter_arc.Statement.{statement}
 use Rattle.book.proofs.field.enter_arc.Tie as tie
 
-proper-arc-requires : tie.Need-proper-arc-requires
+proper-arc-requires : tie.Need-proper_arc-requires
 proper-arc-requires c κs = search rules
 
-abbrev arc-of : tie.After-proper-arc → Arc
-arc-of c = let a = c.before.args in record { tail = a.tail; head = a.head; weight = a.weight }
+abbrev arc-of : tie.After-proper_arc → Arc
+arc-of c = let a = c.args in record { tail = a.tail; head = a.head; weight = a.weight }
 
-proper : (c : tie.Else1) → proper_arc c.before.before.args.vertices (arc-of c.before) ≡ true
-proper c = sym c.before.proper-arc.ensures ∙ not-false c.before.proper-arc.result c.if1.false
+proper : (c : tie.Else-not-proper_arc) → proper_arc c.args.vertices (arc-of c.before) ≡ true
+proper c = sym c.proper_arc.ensures ∙ not-false c.proper_arc.result c.if-not-proper_arc.false-raw
 
-within : (c : tie.Else1) → IsArc c.before.before.args.vertices (arc-of c.before)
+within : (c : tie.Else-not-proper_arc) → IsArc c.args.vertices (arc-of c.before)
 within c = is-arc _ (arc-of c.before) (proper c)
 
 -- the pair of a proper arc is in the table
-pair-below : (c : tie.Else1) → let a = c.before.before.args in a.tail * most_vertices + a.head < pairs
-pair-below c = let inside = within c in omega (arith, inside.tail-below, inside.head-below, c.before.before.requires)
+pair-below : (c : tie.Else-not-proper_arc) → let a = c.args in a.tail * most_vertices + a.head < pairs
+pair-below c = let inside = within c in omega (arith, inside.tail-below, inside.head-below, c.requires)
 
-mul-pair : tie.Need-overflow-mul-pair
+mul-pair : tie.Need-overflow_mul-pair
 mul-pair c = omega (arith, pair-below c)
 
-add-pair : tie.Need-overflow-add-pair
+add-pair : tie.Need-overflow_add-pair
 add-pair c = omega (arith, pair-below c)
 
-mul-if2 : tie.Need-overflow-mul-if2
+mul-if2 : tie.Need-offset_bounds-weights-pair
 mul-if2 c = omega (arith, pair-below c)
 
-returns : tie.Need-returns
+returns : tie.Need-returns-then-not-proper_arc
 returns c b h =
-    let p = c.before in
-    let a = p.before.args in
-    arc_improper a.vertices b a.weights.now h a.at (arc-of p) (sym p.proper-arc.ensures ∙ not-true p.proper-arc.result c.if1.true)
+    let a = c.args in
+    arc_improper a.vertices b a.weights.now h a.at (arc-of c.before) (sym c.proper_arc.ensures ∙ not-true c.proper_arc.result c.if-not-proper_arc.true-raw)
 
-element-copy-out-if2 : tie.Need-element-copy-out-if2
-element-copy-out-if2 c = omega (arith, pair-below c)
+element-copy-out-if2 : tie.Need-bounds-weights-pair
+element-copy-out-if2 c = omega (arith, pair-below c.before)
 
-returns-2 : tie.Need-returns-2
+returns-2 : tie.Need-returns-then-weights-pair
 returns-2 c b h =
-    let here = c.before.before in
-    let a = here.before.before.args in
-    arc-repeated a.vertices b a.weights.now h a.at (arc-of here.before) (proper here) c.if2.true
+    let a = c.args in
+    arc-repeated a.vertices b a.weights.now h a.at (arc-of c.before.before.before.before) (proper c.before.before.before) c.if-weights-pair.true
 
-cast-weights : tie.Need-overflow-cast-weights
-cast-weights c = let inside = within c.before.before in omega (arith, inside.light)
+cast-weights : tie.Need-overflow_cast-weights
+cast-weights c = let inside = within c.before.before.before in omega (arith, inside.light)
 
-mul-weights : tie.Need-overflow-mul-weights
-mul-weights c = omega (arith, pair-below c.before.before)
+mul-weights : tie.Need-offset_bounds-weights-pair-2
+mul-weights c = omega (arith, pair-below c.before.before.before)
 
-element-write-weights : tie.Need-element-write-weights
-element-write-weights c = omega (arith, pair-below c.before.before)
+element-write-weights : tie.Need-bounds-weights-pair-2
+element-write-weights c = omega (arith, pair-below c.before.before.before)
 
-returns-3 : tie.Need-returns-3
+returns-3 : tie.Need-returns
 returns-3 c b h =
-    let here = c.before.before in
-    let a = here.before.before.args in
-    arc-added a.vertices b a.weights.now h a.at (arc-of here.before) (proper here) c.if2.false
+    let a = c.args in
+    arc-added a.vertices b a.weights.now h a.at (arc-of c.before.before.before.before) (proper c.before.before.before) c.if-weights-pair.false
 
-pub enter-arc-spec : {M : Type 1} → statement M
-enter-arc-spec =
+pub enter_arc_spec : {M : Type 1} → statement M
+enter_arc_spec =
     tie.close
     (tie.spec
     proper-arc-requires

@@ -4,41 +4,41 @@ use borrow.Author.Rules.{rules}
 use Rattle.book.proofs.field.fits.Statement.{statement}
 use Rattle.book.proofs.field.fits.Tie as tie
 
-enum_told : tie.Need-enum-told
+enum_told : tie.Need-enum_told-1
 enum_told c = search rules
 
-enum-told-2 : tie.Need-enum-told-2
+enum-told-2 : tie.Need-enum_told-in-Arc
 enum-told-2 c = search rules
 
-enum-told-3 : tie.Need-enum-told-3
+enum-told-3 : tie.Need-enum_told-in-RuleSet
 enum-told-3 c = search rules
 
-enum-told-4 : tie.Need-enum-told-4
+enum-told-4 : tie.Need-enum_told-in-Path
 enum-told-4 c = search rules
 
-enum-told-5 : tie.Need-enum-told-5
+enum-told-5 : tie.Need-enum_told-in-Unknown
 enum-told-5 c = search rules
 
-returns : tie.Need-returns
-returns c = rw c.enum_told.given.1
+returns : tie.Need-returns-in-VertexCount
+returns c = rw c.in-VertexCount.is
 
-returns-2 : tie.Need-returns-2
-returns-2 c = rw c.enum-told2.given.1
+returns-2 : tie.Need-returns-in-Arc
+returns-2 c = rw c.in-Arc.is
 
-returns-3 : tie.Need-returns-3
-returns-3 c = rw c.enum-told3.given.1
+returns-3 : tie.Need-returns-in-RuleSet
+returns-3 c = rw c.in-RuleSet.is
 
-returns-4 : tie.Need-returns-4
-returns-4 c = rw (c.before.enum-told4.given.1, le-leb _ _ c.if1.true)
+returns-4 : tie.Need-returns-then-n-ge2
+returns-4 c = rw (c.in-Path.is, le-leb _ _ c.if-n-ge2.true)
 
-returns-5 : tie.Need-returns-5
-returns-5 c = rw (c.before.enum-told4.given.1, lt-leb _ _ c.if1.false)
+returns-5 : tie.Need-returns-else-n-ge2
+returns-5 c = rw (c.in-Path.is, lt-leb _ _ c.if-n-ge2.false)
 
-returns-6 : tie.Need-returns-6
+returns-6 : tie.Need-returns-in-Unknown
 returns-6 c = search rules
 
-pub fits-spec : {M : Type 1} → statement M
-fits-spec =
+pub fits_spec : {M : Type 1} → statement M
+fits_spec =
     tie.close
     (tie.spec
     enum_told

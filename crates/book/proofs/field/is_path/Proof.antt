@@ -21,20 +21,25 @@ by_length c x y p q =
     let size : length path ≡ a.to - a.from = length-slice a.from a.to a.bytes.now c.requires.1 in
     ap (λ n. leb 2 n && leb n 8 && are_vertices a.vertices path) size ∙ ap₂ (λ u v. u && v && are_vertices a.vertices path) p q
 
-sub-n : tie.Need-overflow-sub-n
+sub-n : tie.Need-overflow_sub-n
 sub-n c = search rules
 
-returns : tie.Need-returns
-returns c = sym (by_length c.before.before false _ (lt-leb _ _ c.if1.true) refl)
+returns : tie.Need-returns-then-n-lt2
+returns c = sym (by_length c.before.before false _ (lt-leb _ _ c.if-n-lt2.true) refl)
 
-returns-2 : tie.Need-returns-2
-returns-2 c = sym (by_length c.before.before.before true false (le-leb _ _ c.before.if1.false) (lt-leb _ _ c.if2.true))
+returns-2 : tie.Need-returns-then-n-gt-LONGEST_PATH
+returns-2 c = sym (by_length c.before.before.before true false (le-leb _ _ c.if-n-lt2.false) (lt-leb _ _ c.if-n-gt-LONGEST_PATH.true))
 
-are-vertices-requires : tie.Need-are-vertices-requires
+are-vertices-requires : tie.Need-are_vertices-requires
 are-vertices-requires c κs = search rules
 
-returns-3 : tie.Need-returns-3
-returns-3 c = c.are-vertices.ensures ∙ sym (by_length c.before.before.before.before true true (le-leb _ _ c.before.before.if1.false) (le-leb _ _ c.before.if2.false))
+returns-3 : tie.Need-returns
+returns-3 c = c.are_vertices.ensures ∙ sym (by_length c.before.before.before.before true true (le-leb _ _ c.if-n-lt2.false) (le-leb _ _ c.if-n-gt-LONGEST_PATH.false))
 
-pub is-path-spec : {M : Type 1} → statement M
-is-path-spec = tie.close (tie.spec sub-n returns returns-2 are-vertices-requires returns-3)
+pub is_path_spec : {M : Type 1} → statement M
+is_path_spec = tie.close (tie.spec
+    sub-n
+    returns
+    returns-2
+    are-vertices-requires
+    returns-3)

@@ -10,35 +10,41 @@ use Rattle.book.proofs.Added.{counts-count}
 use Rattle.book.proofs.field.vertex_count.Statement.{statement}
 use Rattle.book.proofs.field.vertex_count.Tie as tie
 
-add_wide : tie.Need-overflow-add-wide
+add_wide : tie.Need-overflow_add-at
 add_wide c = search rules
 
-shared-slice-read-wide : tie.Need-shared-slice-read-wide
+shared-slice-read-wide : tie.Need-bounds-bytes-at
 shared-slice-read-wide c = search rules
 
-wide-requires : tie.Need-wide-requires
+wide-requires : tie.Need-wide-n-requires
 wide-requires c κs = search rules
 
-returns : tie.Need-returns
+returns : tie.Need-returns-then-n-lt1
 returns c b so_far =
-    let a = c.before.before.before.before.args in
+    let a = c.args in
     let s = a.bytes.now in
-    sym (ap read_as (taken-value VertexCount s b a.at (count_low s b a.at (omega (arith, c.before.wide.ensures.0)))))
+    sym (ap read_as (taken-value VertexCount s b a.at (count_low s b a.at (omega (arith, c.wide-n.ensures.0)))))
 
-returns-2 : tie.Need-returns-2
+returns-2 : tie.Need-returns-then-n-gt-MOST_VERTICES
 returns-2 c b so_far =
-    let a = c.before.before.before.before.before.args in
+    let a = c.args in
     let s = a.bytes.now in
-    sym (ap read_as (taken-value VertexCount s b a.at (count-high s b a.at (omega (arith, c.before.before.wide.ensures.0)))))
+    sym (ap read_as (taken-value VertexCount s b a.at (count-high s b a.at (omega (arith, c.wide-n.ensures.0)))))
 
-returns-3 : tie.Need-returns-3
+returns-3 : tie.Need-returns
 returns-3 c b so_far =
-    let a = c.before.before.before.before.before.args in
+    let a = c.args in
     let s = a.bytes.now in
-    let read = c.before.before.wide.ensures.0 in
+    let read = c.wide-n.ensures.0 in
     ap Read (counts-count a.counts s b a.at so_far _ read)
     ∙ sym (ap read_as (taken-whole VertexCount s b a.at (count-proper s b a.at (omega (arith, read)) (omega (arith, read))) refl refl))
 
-pub vertex-count-spec : {M : Type 1} → statement M
-vertex-count-spec =
-    tie.close (tie.spec add_wide shared-slice-read-wide wide-requires returns returns-2 returns-3)
+pub vertex_count_spec : {M : Type 1} → statement M
+vertex_count_spec =
+    tie.close (tie.spec
+    add_wide
+    shared-slice-read-wide
+    wide-requires
+    returns
+    returns-2
+    returns-3)

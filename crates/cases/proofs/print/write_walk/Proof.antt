@@ -6,41 +6,35 @@ use borrow.Author.Rules.{rules}
 use Rattle.cases.proofs.print.write_walk.Statement.{statement}
 use Rattle.cases.proofs.print.write_walk.Tie as tie
 
-abbrev invariant-loop : tie.invariant-loop
+abbrev invariant-loop : tie.invariant-loop-i
 invariant-loop area n i₀ t4 t5 i = (i ≤ length area) × (1 ≡ length t4) × (1 ≡ length t5)
 
-abbrev decreases-loop : tie.decreases-loop
+abbrev decreases-loop : tie.decreases-loop-i
 decreases-loop area n i₀ t4 t5 i = length area - i
 
-loop-holds : tie.Need-loop-init invariant-loop decreases-loop
+loop-holds : tie.Need-loop-i-init invariant-loop decreases-loop
 loop-holds c = search rules
-
-slice-aggregate-text : tie.Need-slice-aggregate-text invariant-loop decreases-loop
-slice-aggregate-text c = search rules
 
 text-requires : tie.Need-text-requires invariant-loop decreases-loop
 text-requires c κs = search rules
 
-shared-slice-read-wide : tie.Need-shared-slice-read-wide invariant-loop decreases-loop
+shared-slice-read-wide : tie.Need-bounds-area-i invariant-loop decreases-loop
 shared-slice-read-wide c = search rules
 
 wide-requires : tie.Need-wide-requires invariant-loop decreases-loop
 wide-requires c κs = search rules
 
-print-decimal-requires : tie.Need-print-decimal-requires invariant-loop decreases-loop
+print-decimal-requires : tie.Need-print_decimal-requires invariant-loop decreases-loop
 print-decimal-requires c κs = search rules
 
-add-i : tie.Need-overflow-add-i invariant-loop decreases-loop
+add-i : tie.Need-overflow_add-i invariant-loop decreases-loop
 add-i c = search rules
 
-loop-less : tie.Need-loop-smaller invariant-loop decreases-loop
+loop-less : tie.Need-loop-i-smaller invariant-loop decreases-loop
 loop-less c = search rules
 
-loop-again : tie.Need-loop-preserved invariant-loop decreases-loop
+loop-again : tie.Need-loop-i-preserved invariant-loop decreases-loop
 loop-again c = search rules
-
-slice-aggregate-text-2 : tie.Need-slice-aggregate-text-2 invariant-loop decreases-loop
-slice-aggregate-text-2 c = search rules
 
 text-requires-2 : tie.Need-text-requires-2 invariant-loop decreases-loop
 text-requires-2 c κs = search rules
@@ -48,14 +42,13 @@ text-requires-2 c κs = search rules
 returns : tie.Need-returns invariant-loop decreases-loop
 returns c = search rules
 
-pub write-walk-spec : {M : Type 1} → statement M
-write-walk-spec =
+pub write_walk_spec : {M : Type 1} → statement M
+write_walk_spec =
     tie.close
     (tie.spec
     invariant-loop
     decreases-loop
     loop-holds
-    slice-aggregate-text
     text-requires
     shared-slice-read-wide
     wide-requires
@@ -63,6 +56,5 @@ write-walk-spec =
     add-i
     loop-less
     loop-again
-    slice-aggregate-text-2
     text-requires-2
     returns)

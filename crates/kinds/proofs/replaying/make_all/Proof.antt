@@ -12,92 +12,92 @@ use Rattle.kinds.proofs.Stepped.{made-next, made-last, at_last}
 use Rattle.kinds.proofs.replaying.make_all.Statement.{statement}
 use Rattle.kinds.proofs.replaying.make_all.Tie as tie
 
-abbrev invariant-loop : tie.invariant-loop
+abbrev invariant-loop : tie.invariant-loop-at
 invariant-loop bytes reports paths₀ walk₀ rec₀ at₀ paths walk rec at =
     (reports_on bytes (answering rec paths walk) (reports_of (drop at reports)) ≡ reports_on bytes (answering rec₀ paths₀ walk₀) (reports_of (drop at₀ reports)))
     × (length paths ≡ length paths₀)
     × (length walk ≡ length walk₀)
 
-abbrev decreases-loop : tie.decreases-loop
+abbrev decreases-loop : tie.decreases-loop-at
 decreases-loop bytes reports paths₀ walk₀ rec₀ at₀ paths walk rec at = length reports - at
 
 -- one more report has been made
-after-report : (c : tie.After-record-of invariant-loop decreases-loop)
-    → let a = c.before.before.before.before.before.before.before.before.before.before.before.before.before.before.before.before.before.before.before.args in
-    let loop = c.before.before.before.before.before.before.before.before.before.before.before.before.before.before.loop in
-    let make = c.before.before.before.before.before.before.before.before.before.before.make in
-    let made = c.before.before.before.before.made.given.0 in
+after-report : (c : tie.After-record_of-rec invariant-loop decreases-loop)
+    → let a = c.args in
+    let loop = c.loop-at in
+    let make = c.make-made in
+    let made = c.made.given.0 in
     (reports_on a.bytes.now (answering (record_in made.0) make.new.1.1.1.1.0 make.new.1.1.1.1.1.0) (reports_of (drop made.1.0 a.reports.now))
     ≡ reports_on a.bytes.now (answering loop.rec loop.paths loop.walk) (reports_of (drop loop.at a.reports.now)))
     × (loop.at < made.1.0)
 after-report c =
-    let a = c.before.before.before.before.before.before.before.before.before.before.before.before.before.before.before.before.before.before.before.args in
-    let loop = c.before.before.before.before.before.before.before.before.before.before.before.before.before.before.loop in
-    let make = c.before.before.before.before.before.before.before.before.before.before.make in
-    made-next a.bytes.now (answering loop.rec loop.paths loop.walk) a.reports.now loop.at (answering make.result make.new.1.1.1.1.0 make.new.1.1.1.1.1.0) make.ensures _ _ c.before.before.before.before.made.given.1
+    let a = c.args in
+    let loop = c.loop-at in
+    let make = c.make-made in
+    made-next a.bytes.now (answering loop.rec loop.paths loop.walk) a.reports.now loop.at (answering make.result make.new.1.1.1.1.0 make.new.1.1.1.1.1.0) make.ensures _ _ c.in-Report.is
 
-loop-holds : tie.Need-loop-init invariant-loop decreases-loop
+loop-holds : tie.Need-loop-at-init invariant-loop decreases-loop
 loop-holds c = (refl, refl, refl)
 
-make-requires : tie.Need-make-requires invariant-loop decreases-loop
+make-requires : tie.Need-make-made-requires invariant-loop decreases-loop
 make-requires c κs = search rules
 
-enum-known-made : tie.Need-enum-known-made invariant-loop decreases-loop
+enum-known-made : tie.Need-enum_known-made invariant-loop decreases-loop
 enum-known-made c = search rules
 
-enum_told : tie.Need-enum-told invariant-loop decreases-loop
+enum_told : tie.Need-enum_told-1 invariant-loop decreases-loop
 enum_told c = search rules
 
-same_length : tie.Need-same-length invariant-loop decreases-loop
+same_length : tie.Need-shape_of-paths-in_default invariant-loop decreases-loop
 same_length c = search rules
 
-same-length-2 : tie.Need-same-length-2 invariant-loop decreases-loop
+same-length-2 : tie.Need-shape_of-walk-in_default invariant-loop decreases-loop
 same-length-2 c = search rules
 
-returns : tie.Need-returns invariant-loop decreases-loop
+returns : tie.Need-returns-in_default invariant-loop decreases-loop
 returns c =
-    let a = c.before.before.before.before.before.before.before.before.before.before.before.before.before.before.before.args in
-    let loop = c.before.before.before.before.before.before.before.before.before.before.loop in
-    let make = c.before.before.before.before.before.before.make in
-    made-last a.bytes.now (answering loop.rec loop.paths loop.walk) a.reports.now loop.at (answering make.result make.new.1.1.1.1.0 make.new.1.1.1.1.1.0) make.ensures c.enum_told.given.1
+    let a = c.args in
+    let loop = c.loop-at in
+    let make = c.make-made in
+    made-last a.bytes.now (answering loop.rec loop.paths loop.walk) a.reports.now loop.at (answering make.result make.new.1.1.1.1.0 make.new.1.1.1.1.1.0) make.ensures c.in_default.is
     ∙ loop.invariant.0
 
-print-reported-requires : tie.Need-print-reported-requires invariant-loop decreases-loop
+print-reported-requires : tie.Need-print_reported-requires invariant-loop decreases-loop
 print-reported-requires c κs = search rules
 
-record-of-requires : tie.Need-record-of-requires invariant-loop decreases-loop
+record-of-requires : tie.Need-record_of-rec-requires invariant-loop decreases-loop
 record-of-requires c κs = search rules
 
-loop-less : tie.Need-loop-smaller invariant-loop decreases-loop
-loop-less c = omega (arith, (after-report c).1, c.before.before.before.before.before.before.before.before.before.before.before.before.before.loop-test.true)
+loop-less : tie.Need-loop-at-smaller invariant-loop decreases-loop
+loop-less c = omega (arith, (after-report c).1, c.loop-at-test.true)
 
-loop-again : tie.Need-loop-preserved invariant-loop decreases-loop
+loop-again : tie.Need-loop-at-preserved invariant-loop decreases-loop
 loop-again c =
-    let a = c.before.before.before.before.before.before.before.before.before.before.before.before.before.before.before.before.before.before.before.args in
-    let make = c.before.before.before.before.before.before.before.before.before.before.make in
-    let loop = c.before.before.before.before.before.before.before.before.before.before.before.before.before.before.loop in
+    let a = c.args in
+    let make = c.make-made in
+    let loop = c.loop-at in
     let next = after-report c in (
       ap
-          (λ (r : Record). reports_on a.bytes.now (answering r make.new.1.1.1.1.0 make.new.1.1.1.1.1.0) (reports_of (drop c.before.before.before.before.made.given.0.1.0 a.reports.now)))
-          c.record_of.ensures ∙ next.0 ∙ loop.invariant.0,
+          (λ (r : Record). reports_on a.bytes.now (answering r make.new.1.1.1.1.0 make.new.1.1.1.1.1.0) (reports_of (drop c.in-Report.next a.reports.now)))
+          c.record_of-rec.ensures ∙ next.0 ∙ loop.invariant.0,
       omega (arith, loop.invariant.1),
       omega (arith, loop.invariant.2),
     )
 
-same-length-3 : tie.Need-same-length-3 invariant-loop decreases-loop
+same-length-3 : tie.Need-shape_of-paths invariant-loop decreases-loop
 same-length-3 c = search rules
 
-same-length-4 : tie.Need-same-length-4 invariant-loop decreases-loop
+same-length-4 : tie.Need-shape_of-walk invariant-loop decreases-loop
 same-length-4 c = search rules
 
-returns-2 : tie.Need-returns-2 invariant-loop decreases-loop
+returns-2 : tie.Need-returns invariant-loop decreases-loop
 returns-2 c =
-    let a = c.before.before.before.before.before.before.args in
-    let loop = c.before.loop in
-    at_last a.bytes.now (answering loop.rec loop.paths loop.walk) a.reports.now loop.at c.loop-test.false ∙ loop.invariant.0
+    let a = c.args in
+    let loop = c.loop-at in
+    at_last a.bytes.now (answering loop.rec loop.paths loop.walk) a.reports.now loop.at c.loop-at-test.false ∙ loop.invariant.0
 
-pub make-all-spec : {M : Type 1} → statement M
-make-all-spec =
+pub make_all_spec : {M : Type 1} → statement M
+make_all_spec =
     tie.close
     (tie.spec
     invariant-loop

@@ -8,49 +8,49 @@ use Rattle.kinds.proofs.Stepped.{stepped}
 use Rattle.kinds.proofs.replaying.step.Statement.{statement}
 use Rattle.kinds.proofs.replaying.step.Tie as tie
 
-begin-requires : tie.Need-begin-requires
+begin-requires : tie.Need-begin-begun-requires
 begin-requires c κs = search rules
 
-enum-known-begun : tie.Need-enum-known-begun
+enum-known-begun : tie.Need-enum_known-begun
 enum-known-begun c = search rules
 
 refusal-requires : tie.Need-refusal-requires
 refusal-requires c κs = search rules
 
-enum-known-begun-2 : tie.Need-enum-known-begun-2
+enum-known-begun-2 : tie.Need-enum_known-begun-in-Record-1
 enum-known-begun-2 c = search rules
 
-write-record-requires : tie.Need-write-record-requires
+write-record-requires : tie.Need-write_record-requires
 write-record-requires c κs = search rules
 
-make-all-requires : tie.Need-make-all-requires
+make-all-requires : tie.Need-make_all-requires
 make-all-requires c κs = search rules
 
-same_length : tie.Need-same-length
+same_length : tie.Need-shape_of-paths-in-Refused
 same_length c = search rules
 
-same-length-2 : tie.Need-same-length-2
+same-length-2 : tie.Need-shape_of-walk-in-Refused
 same-length-2 c = search rules
 
-returns : tie.Need-returns
+returns : tie.Need-returns-in-Refused
 returns c =
-    let a = c.before.before.before.before.before.before.before.before.before.before.before.before.before.before.before.args in
-    let begin = c.before.before.before.before.before.before.before.before.begin in
-    sym (ap (λ (x : Begun). answering x begin.new.1.1.1.1.0 begin.new.1.1.1.1.1.0) c.before.before.begun.given.1)
-    ∙ not-begun a.bytes.now a.flags a.start a.end a.reports.now a.paths.now a.walk.now (answering begin.result begin.new.1.1.1.1.0 begin.new.1.1.1.1.1.0) _ begin.ensures c.before.before.begun.given.1
+    let a = c.args in
+    let begin = c.begin-begun in
+    sym (ap (λ (x : Begun). answering x begin.new.1.1.1.1.0 begin.new.1.1.1.1.1.0) c.in-Refused.is)
+    ∙ not-begun a.bytes.now a.flags a.start a.end a.reports.now a.paths.now a.walk.now (answering begin.result begin.new.1.1.1.1.0 begin.new.1.1.1.1.1.0) _ begin.ensures c.in-Refused.is
 
-same-length-3 : tie.Need-same-length-3
+same-length-3 : tie.Need-shape_of-paths-in-Record
 same-length-3 c = search rules
 
-same-length-4 : tie.Need-same-length-4
+same-length-4 : tie.Need-shape_of-walk-in-Record
 same-length-4 c = search rules
 
-returns-2 : tie.Need-returns-2
+returns-2 : tie.Need-returns-in-Record
 returns-2 c =
-    let a = c.before.before.before.before.before.before.before.before.before.before.before.before.before.before.before.before.before.before.before.before.before.before.before.args in
-    let begin = c.before.before.before.before.before.before.before.before.before.before.before.before.before.before.before.before.begin in
-    let make-all = c.before.before.before.before.make-all in
-    stepped a.bytes.now a.flags a.start a.end a.reports.now a.paths.now a.walk.now (answering begin.result begin.new.1.1.1.1.0 begin.new.1.1.1.1.1.0) _ begin.ensures c.before.before.before.before.before.before.before.before.before.before.begun2.given.1
+    let a = c.args in
+    let begin = c.begin-begun in
+    let make-all = c.make_all in
+    stepped a.bytes.now a.flags a.start a.end a.reports.now a.paths.now a.walk.now (answering begin.result begin.new.1.1.1.1.0 begin.new.1.1.1.1.1.0) _ begin.ensures c.in-Record.is
     (answering make-all.result make-all.new.1.1.1.0 make-all.new.1.1.1.1.0) make-all.ensures
 
 pub step_spec : {M : Type 1} → statement M

@@ -9,54 +9,52 @@ use borrow.Author.Rules.{rules}
 use Rattle.rules.proofs.area.same_bytes.Statement.{statement}
 use Rattle.rules.proofs.area.same_bytes.Tie as tie
 
-abbrev invariant-loop : tie.invariant-loop
+abbrev invariant-loop : tie.invariant-loop-i
 invariant-loop a at b from n i₀ i = (i ≤ n) × (same (drop i (take n (drop at a))) (drop i (take n (drop from b))) ≡ same (take n (drop at a)) (take n (drop from b)))
 
-abbrev decreases-loop : tie.decreases-loop
+abbrev decreases-loop : tie.decreases-loop-i
 decreases-loop a at b from n i₀ i = n - i
 
-loop-holds : tie.Need-loop-init invariant-loop decreases-loop
+loop-holds : tie.Need-loop-i-init invariant-loop decreases-loop
 loop-holds c = (omega arith, refl)
 
-add-if1 : tie.Need-overflow-add-if1 invariant-loop decreases-loop
+add-if1 : tie.Need-overflow_add-at invariant-loop decreases-loop
 add-if1 c = search rules
 
-shared-slice-read-if1 : tie.Need-shared-slice-read-if1 invariant-loop decreases-loop
+shared-slice-read-if1 : tie.Need-bounds-a-at invariant-loop decreases-loop
 shared-slice-read-if1 c = search rules
 
-add-if1-2 : tie.Need-overflow-add-if1-2 invariant-loop decreases-loop
+add-if1-2 : tie.Need-overflow_add-from invariant-loop decreases-loop
 add-if1-2 c = search rules
 
-shared-slice-read-if1-2 : tie.Need-shared-slice-read-if1-2 invariant-loop decreases-loop
+shared-slice-read-if1-2 : tie.Need-bounds-b-from invariant-loop decreases-loop
 shared-slice-read-if1-2 c = search rules
 
-returns : tie.Need-returns invariant-loop decreases-loop
+returns : tie.Need-returns-then-a-at invariant-loop decreases-loop
 returns c =
-    let at-loop = c.before.before.before.before in
-    let a = at-loop.before.args in
-    sym (parts-differ a.a.now a.b.now a.at a.from a.n (omega arith) (omega arith) at-loop.loop.i (omega arith) c.if1.true) ∙ at-loop.loop.invariant.1
+    let a = c.args in
+    sym (parts-differ a.a.now a.b.now a.at a.from a.n (omega arith) (omega arith) c.loop-i.i (omega arith) c.if-a-at.true) ∙ c.loop-i.invariant.1
 
-add-i : tie.Need-overflow-add-i invariant-loop decreases-loop
+add-i : tie.Need-overflow_add-i invariant-loop decreases-loop
 add-i c = search rules
 
-loop-less : tie.Need-loop-smaller invariant-loop decreases-loop
+loop-less : tie.Need-loop-i-smaller invariant-loop decreases-loop
 loop-less c = search rules
 
-loop-again : tie.Need-loop-preserved invariant-loop decreases-loop
+loop-again : tie.Need-loop-i-preserved invariant-loop decreases-loop
 loop-again c =
-    let at-loop = c.before.before.before.before in
-    let a = at-loop.before.args in (
+    let a = c.args in (
       omega arith,
-      sym (parts_next a.a.now a.b.now a.at a.from a.n (omega arith) (omega arith) at-loop.loop.i (omega arith) c.if1.false) ∙ at-loop.loop.invariant.1,
+      sym (parts_next a.a.now a.b.now a.at a.from a.n (omega arith) (omega arith) c.loop-i.i (omega arith) c.if-a-at.false) ∙ c.loop-i.invariant.1,
     )
 
-returns-2 : tie.Need-returns-2 invariant-loop decreases-loop
+returns-2 : tie.Need-returns invariant-loop decreases-loop
 returns-2 c =
-    let a = c.before.before.args in
-    sym (parts_past a.a.now a.b.now a.at a.from a.n (omega arith) (omega arith) c.before.loop.i c.loop-test.false) ∙ c.before.loop.invariant.1
+    let a = c.args in
+    sym (parts_past a.a.now a.b.now a.at a.from a.n (omega arith) (omega arith) c.loop-i.i c.loop-i-test.false) ∙ c.loop-i.invariant.1
 
-pub same-bytes-spec : {M : Type 1} → statement M
-same-bytes-spec =
+pub same_bytes_spec : {M : Type 1} → statement M
+same_bytes_spec =
     tie.close
     (tie.spec
     invariant-loop

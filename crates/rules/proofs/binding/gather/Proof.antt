@@ -16,21 +16,20 @@ use borrow.Author.Rules.{rules}
 use Rattle.rules.proofs.binding.gather.Statement.{statement}
 use Rattle.rules.proofs.binding.gather.Tie as tie
 
-abbrev invariant-loop : tie.invariant-loop
+abbrev invariant-loop : tie.invariant-loop-j
 invariant-loop needed owners entries paths flags area₀ n₀ j₀ area n j =
     (n ≤ j) × (j ≤ paths) × (length area ≡ length area₀) × ((b : Book) → IsSets b paths needed owners entries → Gathered flags b area n j)
 
-abbrev decreases-loop : tie.decreases-loop
+abbrev decreases-loop : tie.decreases-loop-j
 decreases-loop needed owners entries paths flags area₀ n₀ j₀ area n j = paths - j
 
 -- whether the path's rule set applies
 tested : (c : tie.After-applies invariant-loop decreases-loop) (x : Bool) → c.applies.result ≡ x
-    → let at-loop = c.before.before.before.before.before in
-    let a = at-loop.before.before.before.args in
-    covers 16 (get_or a.needed.now (get_or a.owners.now at-loop.loop.j 0) 0) a.flags ≡ x
+    → let a = c.args in
+    covers 16 (get_or a.needed.now (get_or a.owners.now c.loop-j.j 0) 0) a.flags ≡ x
 tested c x e =
-    let a = c.before.before.before.before.before.before.before.before.args in
-    ap (λ o. covers 16 (get_or a.needed.now o 0) a.flags) (sym c.before.before.wide.ensures.0) ∙ sym c.applies.ensures ∙ e
+    let a = c.args in
+    ap (λ o. covers 16 (get_or a.needed.now o 0) a.flags) (sym c.wide-owner.ensures.0) ∙ sym c.applies.ensures ∙ e
 
 -- what is known of the tables and of the area at the start
 record Room (c : tie.Start invariant-loop decreases-loop) : Type 0 where
@@ -44,124 +43,114 @@ room c =
     let (b, sets) = c.requires.0 in
     record { few = sets-few sets; owners = sets_owners sets; entries = sets-entries sets; area = ap length c.requires.1 ∙ length-replicate {A = ℕ} area_size 0 }
 
-loop-holds : tie.Need-loop-init invariant-loop decreases-loop
-loop-holds c = (omega arith, omega arith, refl, λ b listed. started c.before.before.args.flags b _ c.before.before.requires.1)
+loop-holds : tie.Need-loop-j-init invariant-loop decreases-loop
+loop-holds c = (omega arith, omega arith, refl, λ b listed. started c.args.flags b _ c.requires.1)
 
-element-copy-out-wide : tie.Need-element-copy-out-wide invariant-loop decreases-loop
-element-copy-out-wide c = omega (arith, (room c.before.before.before.before).few)
+element-copy-out-wide : tie.Need-bounds-owners-j invariant-loop decreases-loop
+element-copy-out-wide c = omega (arith, (room c.before.before.before.before.before).few)
 
-wide-requires : tie.Need-wide-requires invariant-loop decreases-loop
+wide-requires : tie.Need-wide-owner-requires invariant-loop decreases-loop
 wide-requires c κs = search rules
 
-mul_at : tie.Need-overflow-mul-at invariant-loop decreases-loop
+mul_at : tie.Need-overflow_mul-at invariant-loop decreases-loop
 mul_at c = search rules
 
-add-j : tie.Need-overflow-add-j invariant-loop decreases-loop
+add-j : tie.Need-overflow_add-j invariant-loop decreases-loop
 add-j c = search rules
 
-mul-applies : tie.Need-overflow-mul-applies invariant-loop decreases-loop
+mul-applies : tie.Need-offset_bounds-needed-owner invariant-loop decreases-loop
 mul-applies c = search rules
 
-element-copy-out-applies : tie.Need-element-copy-out-applies invariant-loop decreases-loop
+element-copy-out-applies : tie.Need-bounds-needed-owner invariant-loop decreases-loop
 element-copy-out-applies c =
-    let at-loop = c.before.before.before in
-    omega (arith, c.wide.ensures.0, (room at-loop.before.before.before).owners at-loop.loop.j)
+    omega (arith, c.wide-owner.ensures.0, (room c.before.before.before.before.before.before.before.before).owners c.loop-j.j)
 
 applies-requires : tie.Need-applies-requires invariant-loop decreases-loop
 applies-requires c κs = search rules
 
-loop-less : tie.Need-loop-smaller invariant-loop decreases-loop
+loop-less : tie.Need-loop-j-smaller-then-not-applies invariant-loop decreases-loop
 loop-less c = search rules
 
-loop-again : tie.Need-loop-preserved invariant-loop decreases-loop
+loop-again : tie.Need-loop-j-preserved-then-not-applies invariant-loop decreases-loop
 loop-again c =
-    let at-loop = c.before.before.before.before.before.before in
-    let a = at-loop.before.before.before.args in
-    let l = at-loop.loop in
-    let more = c.before.before.before.before.before.loop-test.true in (
+    let a = c.args in
+    let l = c.loop-j in
+    let more = c.loop-j-test.true in (
       omega arith,
       omega arith,
       l.invariant.2,
       λ b listed.
           passed_over a.flags b l.area l.n l.j (l.invariant.3 b listed) a.needed.now a.owners.now a.entries.now a.paths listed more
-          (tested c.before _ (not-true c.before.applies.result c.if1.true)),
+          (tested c.before _ (not-true c.applies.result c.if-not-applies.true-raw)),
     )
 
 found-requires : tie.Need-found-requires invariant-loop decreases-loop
 found-requires c κs =
-    let at-loop = c.before.before.before.before.before.before.before in
-    let r = room at-loop.before.before.before in
-    let more = c.before.before.before.before.before.before.loop-test.true in
-    let inv = at-loop.loop.invariant in
+    let r = room c.before.before.before.before.before.before.before.before.before.before.before in
+    let more = c.loop-j-test.true in
+    let inv = c.loop-j.invariant in
     (omega (arith, r.few, r.entries), omega (arith, r.few, r.area, inv.0, inv.2))
 
-loop-less-2 : tie.Need-loop-smaller-2 invariant-loop decreases-loop
+loop-less-2 : tie.Need-loop-j-smaller-then-found invariant-loop decreases-loop
 loop-less-2 c = search rules
 
-loop-again-2 : tie.Need-loop-preserved-2 invariant-loop decreases-loop
+loop-again-2 : tie.Need-loop-j-preserved-then-found invariant-loop decreases-loop
 loop-again-2 c =
-    let else1 = c.before.before.before in
-    let at-loop = else1.before.before.before.before.before.before in
-    let a = at-loop.before.before.before.args in
-    let l = at-loop.loop in
-    let more = else1.before.before.before.before.before.loop-test.true in (
+    let a = c.args in
+    let l = c.loop-j in
+    let more = c.loop-j-test.true in (
       omega arith,
       omega arith,
       l.invariant.2,
       λ b listed.
           known_already a.flags b l.area l.n l.j (l.invariant.3 b listed) a.needed.now a.owners.now a.entries.now a.paths listed more
-          (tested else1.before _ (not-false else1.before.applies.result else1.if1.false))
-          (sym c.before.found.ensures ∙ c.if2.true),
+          (tested c.before.before.before _ (not-false c.applies.result c.if-not-applies.false-raw))
+          (sym c.found.ensures ∙ c.if-found.true),
     )
 
-mul-copy : tie.Need-overflow-mul-copy invariant-loop decreases-loop
+mul-copy : tie.Need-overflow_mul-n invariant-loop decreases-loop
 mul-copy c = search rules
 
 copy-requires : tie.Need-copy-requires invariant-loop decreases-loop
 copy-requires c κs =
-    let at-loop = c.before.before.before.before.before.before.before.before.before.before in
-    let r = room at-loop.before.before.before in
-    let more = c.before.before.before.before.before.before.before.before.before.loop-test.true in
-    let inv = at-loop.loop.invariant in
+    let r = room c.before.before.before.before.before.before.before.before.before.before.before.before.before.before in
+    let more = c.loop-j-test.true in
+    let inv = c.loop-j.invariant in
     (omega (arith, r.few, r.entries), omega (arith, r.few, r.area, inv.0, inv.2))
 
-add-n : tie.Need-overflow-add-n invariant-loop decreases-loop
+add-n : tie.Need-overflow_add-n invariant-loop decreases-loop
 add-n c = search rules
 
-loop-less-3 : tie.Need-loop-smaller-3 invariant-loop decreases-loop
+loop-less-3 : tie.Need-loop-j-smaller invariant-loop decreases-loop
 loop-less-3 c = search rules
 
-loop-again-3 : tie.Need-loop-preserved-3 invariant-loop decreases-loop
+loop-again-3 : tie.Need-loop-j-preserved invariant-loop decreases-loop
 loop-again-3 c =
-    let copied = c.before.before in
-    let else2 = copied.before.before in
-    let else1 = else2.before.before.before in
-    let at-loop = else1.before.before.before.before.before.before in
-    let a = at-loop.before.before.before.args in
-    let r = room at-loop.before.before.before in
-    let l = at-loop.loop in
-    let more = else1.before.before.before.before.before.loop-test.true in (
+    let a = c.args in
+    let r = room c.before.before.before.before.before.before.before.before.before.before.before.before.before.before.before.before.before in
+    let l = c.loop-j in
+    let more = c.loop-j-test.true in (
       omega arith,
       omega arith,
-      ap length copied.copy.ensures
+      ap length c.copy.ensures
           ∙ paste-kept a.entries.now l.area (l.j * 9) (l.n * 9) 9 (omega (arith, r.few, r.entries)) (omega (arith, r.few, r.area, l.invariant.0, l.invariant.2)) 9 (omega arith)
           ∙ l.invariant.2,
       λ b listed.
           added a.flags b l.area l.n l.j (l.invariant.3 b listed) a.needed.now a.owners.now a.entries.now a.paths listed more
-          (tested else1.before _ (not-false else1.before.applies.result else1.if1.false))
-          (sym else2.before.found.ensures ∙ else2.if2.false) (omega (arith, r.few, l.invariant.0)) _ copied.copy.ensures,
+          (tested c.before.before.before.before.before.before.before _ (not-false c.applies.result c.if-not-applies.false-raw))
+          (sym c.found.ensures ∙ c.if-found.false) (omega (arith, r.few, l.invariant.0)) _ c.copy.ensures,
     )
 
-same_length : tie.Need-same-length invariant-loop decreases-loop
-same_length c = c.before.loop.invariant.2
+same_length : tie.Need-shape_of-area invariant-loop decreases-loop
+same_length c = c.loop-j.invariant.2
 
 returns : tie.Need-returns invariant-loop decreases-loop
 returns c b listed =
-    let l = c.before.loop in
-    finished c.before.before.before.before.args.flags b l.area l.n l.j (l.invariant.3 b listed) (omega (arith, listed.counted, c.loop-test.false))
+    let l = c.loop-j in
+    finished c.args.flags b l.area l.n l.j (l.invariant.3 b listed) (omega (arith, listed.counted, c.loop-j-test.false))
 
-pub gather-spec : {M : Type 1} → statement M
-gather-spec =
+pub gather_spec : {M : Type 1} → statement M
+gather_spec =
     tie.close
     (tie.spec
     invariant-loop

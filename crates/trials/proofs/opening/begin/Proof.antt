@@ -8,53 +8,48 @@ use Rattle.trials.specs.Operations.{beginning_of}
 use Rattle.trials.proofs.opening.begin.Statement.{statement}
 use Rattle.trials.proofs.opening.begin.Tie as tie
 
-load-requires : tie.Need-load-requires
+load-requires : tie.Need-load-read-requires
 load-requires c κs = search rules
 
-enum-known-read : tie.Need-enum-known-read
+enum-known-read : tie.Need-enum_known-read
 enum-known-read c = search rules
 
-enum-known-read-2 : tie.Need-enum-known-read-2
+enum-known-read-2 : tie.Need-enum_known-read-in-Read-1
 enum-known-read-2 c = search rules
 
 -- the book that was read
-book : (c : tie.After-read2)
-    → let load = c.before.before in
-    Loaded load.before.before.before.before.before.before.before.before.args.bytes.now c.read2.given.0.0
-    load.load.new.1.0 load.load.new.1.1.0 load.load.new.1.1.1.0 load.load.new.1.1.1.1.0
+book : (c : tie.In-Read-2)
+    → Loaded c.args.bytes.now c.in-Read.counts
+    c.load-read.new.1.0 c.load-read.new.1.1.0 c.load-read.new.1.1.1.0 c.load-read.new.1.1.1.1.0
 book c =
-    let load = c.before.before in
-    loaded load.before.before.before.before.before.before.before.before.args.bytes.now load.load.result c.read2.given.0.0 _ _ _ _
-    load.load.ensures.0 load.load.ensures.1 c.read2.given.1
+    loaded c.args.bytes.now c.load-read.result c.in-Read.counts _ _ _ _
+    c.load-read.ensures.0 c.load-read.ensures.1 c.in-Read.is
 
-slice-aggregate-begin-in : tie.Need-slice-aggregate-begin-in
+slice-aggregate-begin-in : tie.Need-slice_bounds-begin_in-end
 slice-aggregate-begin-in c = sym (sets-entries (book c.before.before.before.before.before).tables.sets)
 
-begin-in-requires : tie.Need-begin-in-requires
+begin-in-requires : tie.Need-begin_in-requires
 begin-in-requires c κs = let b = book c.before.before.before.before.before.before.before in (b.book, b.tables)
 
-returns : tie.Need-returns
+returns : tie.Need-returns-in-Refused
 returns c =
-    let load = c.before.before.before in
-    let a = load.before.before.before.before.before.before.before.before.args in
-    sym (ap (λ x. beginning_of x a.flags a.start a.end a.paths.now a.walk.now) (answer-refused (reading a.bytes.now) _ (sym load.load.ensures.0 ∙ c.before.read.given.1)))
+    let a = c.args in
+    sym (ap (λ x. beginning_of x a.flags a.start a.end a.paths.now a.walk.now) (answer-refused (reading a.bytes.now) _ (sym c.load-read.ensures.0 ∙ c.in-Refused.is)))
 
-same_length : tie.Need-same-length
+same_length : tie.Need-shape_of-paths
 same_length c = search rules
 
-same-length-2 : tie.Need-same-length-2
+same-length-2 : tie.Need-shape_of-walk
 same-length-2 c = search rules
 
-returns-2 : tie.Need-returns-2
+returns-2 : tie.Need-returns-in-Read
 returns-2 c =
-    let call = c.before.before.before.before in
-    let read = call.before.before.before.before.before.before.before.before in
-    let b = book read in
-    let a = read.before.before.before.before.before.before.before.before.before.before.args in
-    call.begin-in.ensures b.book b.tables ∙ sym (ap (λ x. beginning_of x a.flags a.start a.end a.paths.now a.walk.now) b.is)
+    let b = book c.before.before.before.before.before.before.before.before.before.before.before.before in
+    let a = c.args in
+    c.begin_in.ensures b.book b.tables ∙ sym (ap (λ x. beginning_of x a.flags a.start a.end a.paths.now a.walk.now) b.is)
 
-pub begin-spec : {M : Type 1} → statement M
-begin-spec =
+pub begin_spec : {M : Type 1} → statement M
+begin_spec =
     tie.close
     (tie.spec
     load-requires

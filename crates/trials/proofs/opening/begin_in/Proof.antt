@@ -19,76 +19,73 @@ use Rattle.trials.proofs.Beginning.{begin-fails, begun-short, begun}
 use Rattle.trials.proofs.opening.begin_in.Statement.{statement}
 use Rattle.trials.proofs.opening.begin_in.Tie as tie
 
-returns : tie.Need-returns
+returns : tie.Need-returns-then-paths-lt-AREA
 returns c b h =
-    let a = c.before.before.before.before.args in
-    begin-fails b a.flags a.start a.end a.paths.now a.walk.now (here (lt-leb _ _ c.if1.true))
+    let a = c.args in
+    begin-fails b a.flags a.start a.end a.paths.now a.walk.now (here (lt-leb _ _ c.if-paths-lt-AREA.true))
 
-returns-2 : tie.Need-returns-2
+returns-2 : tie.Need-returns-then-walk-lt-LONGEST
 returns-2 c b h =
-    let a = c.before.before.before.before.before.args in
-    begin-fails b a.flags a.start a.end a.paths.now a.walk.now (later (le-leb _ _ c.before.if1.false) (here (lt-leb _ _ c.if2.true)))
+    let a = c.args in
+    begin-fails b a.flags a.start a.end a.paths.now a.walk.now (later (le-leb _ _ c.if-paths-lt-AREA.false) (here (lt-leb _ _ c.if-walk-lt-LONGEST.true)))
 
-returns-3 : tie.Need-returns-3
+returns-3 : tie.Need-returns-then-vertices-start
 returns-3 c b h =
-    let a = c.before.before.before.before.before.before.args in
+    let a = c.args in
     begin-fails b a.flags a.start a.end a.paths.now a.walk.now
-    (later (le-leb _ _ c.before.before.if1.false)
-    (later (le-leb _ _ c.before.if2.false) (here (le-ltb a.start b.count (omega (arith, h.graph.vertices_are, c.if3.true))))))
+    (later (le-leb _ _ c.if-paths-lt-AREA.false)
+    (later (le-leb _ _ c.if-walk-lt-LONGEST.false) (here (le-ltb a.start b.count (omega (arith, h.graph.vertices_are, c.if-vertices-start.true))))))
 
-returns-4 : tie.Need-returns-4
+returns-4 : tie.Need-returns-then-vertices-end
 returns-4 c b h =
-    let a = c.before.before.before.before.before.before.before.args in
+    let a = c.args in
     begin-fails b a.flags a.start a.end a.paths.now a.walk.now
-    (later (le-leb _ _ c.before.before.before.if1.false)
-    (later (le-leb _ _ c.before.before.if2.false)
-    (later (lt-ltb a.start b.count (omega (arith, h.graph.vertices_are, c.before.if3.false))) (here (le-ltb a.end b.count (omega (arith, h.graph.vertices_are, c.if4.true)))))))
+    (later (le-leb _ _ c.if-paths-lt-AREA.false)
+    (later (le-leb _ _ c.if-walk-lt-LONGEST.false)
+    (later (lt-ltb a.start b.count (omega (arith, h.graph.vertices_are, c.if-vertices-start.false))) (here (le-ltb a.end b.count (omega (arith, h.graph.vertices_are, c.if-vertices-end.true)))))))
 
 -- nothing is refused
-tested : (c : tie.Else4)
-    → let a = c.before.before.before.before.before.before.before.args in
+tested : (c : tie.Else-vertices-end)
+    → let a = c.args in
     (b : Book) → IsGraph b a.counts.vertices a.weights.now → Hold (begin_tests (graph b) a.start a.end a.paths.now a.walk.now)
 tested c b g =
-    let a = c.before.before.before.before.before.before.before.args in (
-      le-leb _ _ c.before.before.before.if1.false,
+    let a = c.args in (
+      le-leb _ _ c.if-paths-lt-AREA.false,
       (
-        le-leb _ _ c.before.before.if2.false,
-        (lt-ltb a.start b.count (omega (arith, g.vertices_are, c.before.if3.false)), (lt-ltb a.end b.count (omega (arith, g.vertices_are, c.if4.false)), tt)),
+        le-leb _ _ c.if-walk-lt-LONGEST.false,
+        (lt-ltb a.start b.count (omega (arith, g.vertices_are, c.if-vertices-start.false)), (lt-ltb a.end b.count (omega (arith, g.vertices_are, c.if-vertices-end.false)), tt)),
       ),
     )
 
-slice-aggregate-gather : tie.Need-slice-aggregate-gather
+slice-aggregate-gather : tie.Need-slice_bounds-gather-end
 slice-aggregate-gather c = search rules
 
-gather-requires : tie.Need-gather-requires
+gather-requires : tie.Need-gather-count-requires
 gather-requires c κs = search rules
 
 -- the paths that are known
-gathered : (c : tie.After-gather)
-    → let a = c.before.before.before.before.before.before.before.before.before.args in
+gathered : (c : tie.After-gather-count)
+    → let a = c.args in
     (b : Book) → IsSets b a.counts.paths a.needed.now a.owners.now a.entries.now
-    → (c.gather.result ≡ length (known a.flags b.sets)) × (c.gather.new.1.1.1.1.1.0 ≡ written (known a.flags b.sets))
-gathered c = c.gather.ensures
+    → (c.gather-count.result ≡ length (known a.flags b.sets)) × (c.gather-count.new.1.1.1.1.1.0 ≡ written (known a.flags b.sets))
+gathered c = c.gather-count.ensures
 
-slice-aggregate-find : tie.Need-slice-aggregate-find
+slice-aggregate-find : tie.Need-slice_bounds-find-end
 slice-aggregate-find c = search rules
 
-find-requires : tie.Need-find-requires
+find-requires : tie.Need-find-found-requires
 find-requires c κs =
-    let call = c.before.before.before in
-    let else4 = call.before.before in
-    let start = else4.before.before.before.before.before.before.before in
-    let a = start.args in
-    let (b, h) = start.requires in
-    let (counted, filled) = gathered call b h.sets in (
+    let a = c.args in
+    let (b, h) = c.requires in
+    let (counted, filled) = gathered c.before.before.before b h.sets in (
       (b, h.graph),
       (
-        ap (λ n. valid n call.gather.new.1.1.1.1.1.0 call.gather.result) h.graph.vertices_are ∙ gathered_valid a.flags b h.graph.well counted filled,
-        (else4.before.if3.false, else4.before.before.if2.false),
+        ap (λ n. valid n c.gather-count.new.1.1.1.1.1.0 c.gather-count.result) h.graph.vertices_are ∙ gathered_valid a.flags b h.graph.well counted filled,
+        (c.if-vertices-start.false, c.if-walk-lt-LONGEST.false),
       ),
     )
 
-slice-aggregate-copy : tie.Need-slice-aggregate-copy
+slice-aggregate-copy : tie.Need-slice_bounds-copy-end
 slice-aggregate-copy c = search rules
 
 copy-requires : tie.Need-copy-requires
@@ -99,38 +96,30 @@ new-requires c κs = search rules
 
 replanned-requires : tie.Need-replanned-requires
 replanned-requires c κs =
-    let call = c.before.before.before.before.before.before.before.before in
-    let gather = call.before.before.before.before in
-    let else4 = gather.before.before in
-    let start = else4.before.before.before.before.before.before.before in
-    let a = start.args in
-    let (b, h) = start.requires in
-    let (counted, filled) = gathered gather b h.sets in
-    begun-short b a.flags a.start a.end a.paths.now a.walk.now h.graph.well (tested else4 b h.graph) counted filled
-    call.find.result call.find.new.1.1.1.1.1.1.0 (call.find.ensures b h.graph)
+    let a = c.args in
+    let (b, h) = c.requires in
+    let (counted, filled) = gathered c.before.before.before.before.before.before.before.before.before.before.before.before b h.sets in
+    begun-short b a.flags a.start a.end a.paths.now a.walk.now h.graph.well (tested c.before.before.before.before.before.before.before.before.before.before.before.before.before.before b h.graph) counted filled
+    c.find-found.result c.find-found.new.1.1.1.1.1.1.0 (c.find-found.ensures b h.graph)
 
-same_length : tie.Need-same-length
+same_length : tie.Need-shape_of-paths
 same_length c = search rules
 
-same-length-2 : tie.Need-same-length-2
+same-length-2 : tie.Need-shape_of-walk
 same-length-2 c = search rules
 
-returns-5 : tie.Need-returns-5
+returns-5 : tie.Need-returns
 returns-5 c b h =
-    let copy = c.before.before.before.before in
-    let call = copy.before.before.before.before.before in
-    let gather = call.before.before.before.before in
-    let else4 = gather.before.before in
-    let a = else4.before.before.before.before.before.before.before.args in
-    let (counted, filled) = gathered gather b h.sets in
-    let f = call.find.result in
-    let new = call.find.new.1.1.1.1.1.1.0 in
-    ap (λ (z : Record). answering (Begun.Record z) copy.copy.new.1.1.0 new) (c.replanned.ensures ∙ ap (λ (z : Record). replanned z f) c.before.new.ensures)
-    ∙ ap (λ l. answering (Begun.Record (replanned (fresh a.start a.end gather.gather.result) f)) l new) copy.copy.ensures
-    ∙ begun b a.flags a.start a.end a.paths.now a.walk.now h.graph.well (tested else4 b h.graph) counted filled f new (call.find.ensures b h.graph)
+    let a = c.args in
+    let (counted, filled) = gathered c.before.before.before.before.before.before.before.before.before.before.before.before.before b h.sets in
+    let f = c.find-found.result in
+    let new = c.find-found.new.1.1.1.1.1.1.0 in
+    ap (λ (z : Record). answering (Begun.Record z) c.copy.new.1.1.0 new) (c.replanned.ensures ∙ ap (λ (z : Record). replanned z f) c.new.ensures)
+    ∙ ap (λ l. answering (Begun.Record (replanned (fresh a.start a.end c.gather-count.result) f)) l new) c.copy.ensures
+    ∙ begun b a.flags a.start a.end a.paths.now a.walk.now h.graph.well (tested c.before.before.before.before.before.before.before.before.before.before.before.before.before.before.before b h.graph) counted filled f new (c.find-found.ensures b h.graph)
 
-pub begin-in-spec : {M : Type 1} → statement M
-begin-in-spec =
+pub begin_in_spec : {M : Type 1} → statement M
+begin_in_spec =
     tie.close
     (tie.spec
     returns

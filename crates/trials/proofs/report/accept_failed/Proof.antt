@@ -20,104 +20,102 @@ use Rattle.trials.proofs.report.accept_failed.Statement.{statement}
 use Rattle.trials.proofs.report.accept_failed.Tie as tie
 
 -- a walk stands
-stands : (c : tie.After-enum-told) → let a = c.before.before.before.before.before.before.before.before.args in (b : Book) → IsGraph b a.vertices a.weights.now → Standing ≡ judged_as (refusal_by (judge_tests a.rec a.paths.now a.walk.now b))
-stands c b of = sym c.enum_told.given.1 ∙ c.before.before.judge.ensures b of
+stands : (c : tie.In-Standing) → let a = c.args in (b : Book) → IsGraph b a.vertices a.weights.now → Standing ≡ judged_as (refusal_by (judge_tests a.rec a.paths.now a.walk.now b))
+stands c b of = sym c.in-Standing.is ∙ c.judge.ensures b of
 
 -- 12, as the code tests it
-named-is : (c : tie.After-is-named) (x : Bool) → c.is-named.result ≡ x
-    → let a = c.before.before.before.before.before.before.before.before.before.before.args in
+named-is : (c : tie.After-is_named) (x : Bool) → c.is_named.result ≡ x
+    → let a = c.args in
     (b : Book) → IsGraph b a.vertices a.weights.now → is_named (graph b) (state_of a.rec a.paths.now a.walk.now) (failed a.named.now) ≡ x
 named-is c x e b of =
-    let a = c.before.before.before.before.before.before.before.before.before.before.args in
-    ap (λ n. is_path n a.named.now && occurs a.named.now (take a.rec.length a.walk.now)) (sym of.vertices_are) ∙ sym c.is-named.ensures ∙ e
+    let a = c.args in
+    ap (λ n. is_path n a.named.now && occurs a.named.now (take a.rec.length a.walk.now)) (sym of.vertices_are) ∙ sym c.is_named.ensures ∙ e
 
 -- nothing is refused
-is-ready : (c : tie.Else2)
-    → let a = c.before.before.before.before.before.before.before.before.before.before.before.before.before.args in
+is-ready : (c : tie.Else-rec-ge-MOST_PATHS)
+    → let a = c.args in
     (b : Book) → IsGraph b a.vertices a.weights.now → refusal_by (report_tests a.rec a.paths.now a.walk.now (failed a.named.now) b) ≡ none
 is-ready c b of =
-    let a = c.before.before.before.before.before.before.before.before.before.before.before.before.before.args in
-    ready b a.rec a.paths.now a.walk.now (stands c.before.before.before.before.before b of) a.named.now
-    (named-is c.before.before.before _ (not-false c.before.before.before.is-named.result c.before.before.if1.false) b of, (lt-ltb a.rec.known most_paths c.if2.false, tt))
+    let a = c.args in
+    ready b a.rec a.paths.now a.walk.now (stands c.before.before.before.before b of) a.named.now
+    (named-is c.before.before.before _ (not-false c.is_named.result c.if-not-is_named.false-raw) b of, (lt-ltb a.rec.known most_paths c.if-rec-ge-MOST_PATHS.false, tt))
 
 judge-requires : tie.Need-judge-requires
 judge-requires c κs = search rules
 
-enum-known-r : tie.Need-enum-known-r
+enum-known-r : tie.Need-enum_known-r
 enum-known-r c = search rules
 
-enum_told : tie.Need-enum-told
+enum_told : tie.Need-enum_told-1
 enum_told c = search rules
 
-slice-reshare-prefix-is-named : tie.Need-slice-reshare-prefix-is-named
+slice-reshare-prefix-is-named : tie.Need-slice_bounds-is_named-end
 slice-reshare-prefix-is-named c =
-    let s = c.before.before.before.before.before.before.before.before in
-    let a = s.args in
-    let (b, of) = s.requires in
+    let a = c.args in
+    let (b, of) = c.requires in
     walk-fits b a.rec a.paths.now a.walk.now (stands c b of)
 
-slice-aggregate-is-named : tie.Need-slice-aggregate-is-named
+slice-aggregate-is-named : tie.Need-slice_bounds-is_named-end-in-Standing
 slice-aggregate-is-named c =
-    let s = c.before.before.before.before.before.before.before.before.before in
-    let a = s.args in
-    let (b, of) = s.requires in
-    sym (length-take-le _ _ (walk-fits b a.rec a.paths.now a.walk.now (stands c.before b of)))
+    let a = c.args in
+    let (b, of) = c.requires in
+    sym (length-take-le _ _ (walk-fits b a.rec a.paths.now a.walk.now (stands c b of)))
 
-is-named-requires : tie.Need-is-named-requires
+is-named-requires : tie.Need-is_named-requires
 is-named-requires c κs = search rules
 
-same_length : tie.Need-same-length
+same_length : tie.Need-shape_of-paths-then-not-is_named
 same_length c = search rules
 
-same-length-2 : tie.Need-same-length-2
+same-length-2 : tie.Need-shape_of-walk-then-not-is_named
 same-length-2 c = search rules
 
-returns : tie.Need-returns
+returns : tie.Need-returns-then-not-is_named
 returns c =
-    let a = c.before.before.before.before.before.before.before.before.before.before.before.args in
-    λ b of. said_fails b a.rec a.paths.now a.walk.now (stands c.before.before.before b of) a.named.now (here (named-is c.before _ (not-true c.before.is-named.result c.if1.true) b of))
+    let a = c.args in
+    λ b of. said_fails b a.rec a.paths.now a.walk.now (stands c.before.before b of) a.named.now (here (named-is c.before _ (not-true c.is_named.result c.if-not-is_named.true-raw) b of))
 
-same-length-3 : tie.Need-same-length-3
+same-length-3 : tie.Need-shape_of-paths-then-rec-ge-MOST_PATHS
 same-length-3 c = search rules
 
-same-length-4 : tie.Need-same-length-4
+same-length-4 : tie.Need-shape_of-walk-then-rec-ge-MOST_PATHS
 same-length-4 c = search rules
 
-returns-2 : tie.Need-returns-2
+returns-2 : tie.Need-returns-then-rec-ge-MOST_PATHS
 returns-2 c =
-    let a = c.before.before.before.before.before.before.before.before.before.before.before.before.before.args in
+    let a = c.args in
     λ b of.
-    said_fails b a.rec a.paths.now a.walk.now (stands c.before.before.before.before.before b of) a.named.now
-    (later (named-is c.before.before.before _ (not-false c.before.before.before.is-named.result c.before.before.if1.false) b of) (here (le-ltb a.rec.known most_paths c.if2.true)))
+    said_fails b a.rec a.paths.now a.walk.now (stands c.before.before.before.before b of) a.named.now
+    (later (named-is c.before.before.before _ (not-false c.is_named.result c.if-not-is_named.false-raw) b of) (here (le-ltb a.rec.known most_paths c.if-rec-ge-MOST_PATHS.true)))
 
 replan-requires : tie.Need-replan-requires
 replan-requires c κs =
-    let (b, of) = c.before.before.before.before.before.before.before.before.before.before.before.before.before.before.before.requires in
+    let (b, of) = c.requires in
     (b, of, is-ready c.before.before b of)
 
-same-length-5 : tie.Need-same-length-5
+same-length-5 : tie.Need-shape_of-paths-in-Refused
 same-length-5 c = search rules
 
-same-length-6 : tie.Need-same-length-6
+same-length-6 : tie.Need-shape_of-walk-in-Refused
 same-length-6 c = search rules
 
-returns-3 : tie.Need-returns-3
+returns-3 : tie.Need-returns-in-Refused
 returns-3 c =
-    let a = c.before.before.before.before.before.before.before.before.before.args in
-    λ b of. refused b a.rec a.paths.now a.walk.now _ (sym c.before.r.given.1 ∙ c.before.before.before.judge.ensures b of) (failed a.named.now)
+    let a = c.args in
+    λ b of. refused b a.rec a.paths.now a.walk.now _ (sym c.in-Refused.is ∙ c.judge.ensures b of) (failed a.named.now)
 
-same-length-7 : tie.Need-same-length-7
+same-length-7 : tie.Need-shape_of-paths-else-rec-ge-MOST_PATHS
 same-length-7 c = search rules
 
-same-length-8 : tie.Need-same-length-8
+same-length-8 : tie.Need-shape_of-walk-else-rec-ge-MOST_PATHS
 same-length-8 c = search rules
 
-returns-4 : tie.Need-returns-4
+returns-4 : tie.Need-returns-else-rec-ge-MOST_PATHS
 returns-4 c =
-    λ b of. c.before.before.before.before.replan.ensures b of (is-ready c.before.before.before.before.before.before.before b of)
+    λ b of. c.replan.ensures b of (is-ready c.before.before.before.before.before.before.before b of)
 
-pub accept-failed-spec : {M : Type 1} → statement M
-accept-failed-spec =
+pub accept_failed_spec : {M : Type 1} → statement M
+accept_failed_spec =
     tie.close
     (tie.spec
     judge-requires

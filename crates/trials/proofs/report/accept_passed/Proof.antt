@@ -12,29 +12,29 @@ use Rattle.trials.proofs.report.accept_passed.Tie as tie
 judge-requires : tie.Need-judge-requires
 judge-requires c κs = search rules
 
-enum-known-r : tie.Need-enum-known-r
+enum-known-r : tie.Need-enum_known-r
 enum-known-r c = search rules
 
-enum_told : tie.Need-enum-told
+enum_told : tie.Need-enum_told-1
 enum_told c = search rules
 
 passed-requires : tie.Need-passed-requires
 passed-requires c κs = search rules
 
-returns : tie.Need-returns
+returns : tie.Need-returns-in-Refused
 returns c =
-    let a = c.before.before.before.before.before.before.args in
-    λ b of. refused b a.rec a.paths.now a.walk.now _ (sym c.before.r.given.1 ∙ c.before.before.before.judge.ensures b of) passed
+    let a = c.args in
+    λ b of. refused b a.rec a.paths.now a.walk.now _ (sym c.in-Refused.is ∙ c.judge.ensures b of) passed
 
-returns-2 : tie.Need-returns-2
+returns-2 : tie.Need-returns-in-Standing
 returns-2 c =
-    let a = c.before.before.before.before.before.before.args in
+    let a = c.args in
     λ b of.
     ap (λ (z : Record). answering (Reported.Accepted z) a.paths.now a.walk.now) c.passed.ensures
-    ∙ has_passed b a.rec a.paths.now a.walk.now (sym c.before.enum_told.given.1 ∙ c.before.before.before.judge.ensures b of)
+    ∙ has_passed b a.rec a.paths.now a.walk.now (sym c.in-Standing.is ∙ c.judge.ensures b of)
 
-pub accept-passed-spec : {M : Type 1} → statement M
-accept-passed-spec =
+pub accept_passed_spec : {M : Type 1} → statement M
+accept_passed_spec =
     tie.close
     (tie.spec
     judge-requires

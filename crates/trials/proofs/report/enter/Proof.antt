@@ -6,26 +6,25 @@ use Prim.Native.Nat.{◌*◌}
 use Rattle.trials.proofs.report.enter.Statement.{statement}
 use Rattle.trials.proofs.report.enter.Tie as tie
 
-mul_at : tie.Need-overflow-mul-at
+mul_at : tie.Need-overflow_mul-at
 mul_at c = search rules
 
-cast-paths : tie.Need-overflow-cast-paths
+cast-paths : tie.Need-overflow_cast-paths
 cast-paths c = search rules
 
-slice-write-paths : tie.Need-slice-write-paths
+slice-write-paths : tie.Need-bounds-paths-at
 slice-write-paths c = search rules
 
-add-copy : tie.Need-overflow-add-copy
+add-copy : tie.Need-overflow_add-at
 add-copy c = search rules
 
 copy-requires : tie.Need-copy-requires
 copy-requires c κs =
-    let s = c.before.before.before in
-    (omega arith, rw length-set (omega (arith, s.requires.0, s.requires.1)))
+    (omega arith, rw length-set (omega (arith, c.requires.0, c.requires.1)))
 
-same_length : tie.Need-same-length
+same_length : tie.Need-shape_of-paths
 same_length c =
-    let a = c.before.before.before.before.before.before.args in
+    let a = c.args in
     omega (arith, length-set a.paths.now (a.known * 9) (length a.path.now))
 
 returns : tie.Need-returns

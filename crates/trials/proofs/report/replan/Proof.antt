@@ -25,73 +25,69 @@ use Rattle.trials.proofs.report.replan.Tie as tie
 
 -- the runs area with the path
 enters : (c : tie.After-enter)
-    → let a = c.before.before.before.before.before.args in
+    → let a = c.args in
     (b : Book) → IsGraph b a.vertices a.weights.now → refusal_by (report_tests a.rec a.paths.now a.walk.now (failed a.named.now) b) ≡ none
     → c.enter.new.1.1.0 ≡ written (spelled a.rec.known a.paths.now ++ (a.named.now ∷ [])) ++ drop area_size a.paths.now
 enters c b of e =
-    let a = c.before.before.before.before.before.args in
+    let a = c.args in
     c.enter.ensures ∙ entered b of.well a.rec a.paths.now a.walk.now a.named.now e
 
 -- the plan anew
-plans : (c : tie.After-find)
-    → let a = c.before.before.before.before.before.before.before.before.before.before.before.args in
+plans : (c : tie.After-find-found)
+    → let a = c.args in
     (b : Book) → IsGraph b a.vertices a.weights.now
-    → Searched (graph b) (spelled (a.rec.known + 1) c.before.before.before.before.before.before.enter.new.1.1.0) a.rec.start a.rec.end a.walk.now c.find.result c.find.new.1.1.1.1.1.1.0
+    → Searched (graph b) (spelled (a.rec.known + 1) c.enter.new.1.1.0) a.rec.start a.rec.end a.walk.now c.find-found.result c.find-found.new.1.1.1.1.1.1.0
 plans c b of =
-    let a = c.before.before.before.before.before.before.before.before.before.before.before.args in
-    subst (λ (z : Record). Searched (graph b) (spelled z.known c.before.before.before.before.before.before.enter.new.1.1.0) z.start z.end a.walk.now c.find.result c.find.new.1.1.1.1.1.1.0)
-    c.before.before.before.failed.ensures (c.find.ensures b of)
+    let a = c.args in
+    subst (λ (z : Record). Searched (graph b) (spelled z.known c.enter.new.1.1.0) z.start z.end a.walk.now c.find-found.result c.find-found.new.1.1.1.1.1.1.0)
+    c.failed-next.ensures (c.find-found.ensures b of)
 
 enter-requires : tie.Need-enter-requires
 enter-requires c κs =
-    let s = c.before.before.before.before in
-    let (b, of, e) = s.requires in
-    let a = s.args in
+    let (b, of, e) = c.requires in
+    let a = c.args in
     (path-short b of.well a.rec a.paths.now a.walk.now a.named.now e, entry-fits b of.well a.rec a.paths.now a.walk.now a.named.now e)
 
-failed-requires : tie.Need-failed-requires
+failed-requires : tie.Need-failed-next-requires
 failed-requires c κs =
-    let s = c.before.before.before.before.before.before.before in
-    let (b, of, e) = s.requires in
-    let a = s.args in
+    let (b, of, e) = c.requires in
+    let a = c.args in
     (few-known b of.well a.rec a.paths.now a.walk.now a.named.now e, failed-few b of.well a.rec a.paths.now a.walk.now a.named.now e)
 
-find-requires : tie.Need-find-requires
+find-requires : tie.Need-find-found-requires
 find-requires c κs =
-    let s = c.before.before.before.before.before.before.before.before.before.before in
-    let (b, of, e) = s.requires in
-    let a = s.args in
-    let area = c.before.before.before.before.before.enter.new.1.1.0 in
-    let next = c.before.before.failed.ensures in
+    let (b, of, e) = c.requires in
+    let a = c.args in
+    let area = c.enter.new.1.1.0 in
+    let next = c.failed-next.ensures in
     let valid-area : valid a.vertices area (a.rec.known + 1) ≡ true =
-    ap (λ n. valid n area (a.rec.known + 1)) of.vertices_are ∙ still-valid b of.well a.rec a.paths.now a.walk.now a.named.now e _ (enters c.before.before.before.before.before b of e) in (
+    ap (λ n. valid n area (a.rec.known + 1)) of.vertices_are ∙ still-valid b of.well a.rec a.paths.now a.walk.now a.named.now e _ (enters c.before.before.before.before b of e) in (
       (b, of),
       (ap (λ (z : Record). valid a.vertices area z.known) next ∙ valid-area, (omega (arith, of.vertices_are, start-below b of.well a.rec a.paths.now a.walk.now a.named.now e, ap (λ (z : Record). z.start) next), area-fits b of.well a.rec a.paths.now a.walk.now a.named.now e)),
     )
 
 replanned-requires : tie.Need-replanned-requires
 replanned-requires c κs =
-    let s = c.before.before.before.before.before.before.before.before.before.before.before.before.before in
-    let (b, of, e) = s.requires in
-    let a = s.args in
-    walk-short b of.well a.rec a.paths.now a.walk.now a.named.now e _ (enters c.before.before.before.before.before.before.before.before b of e) c.before.before.find.result c.before.before.find.new.1.1.1.1.1.1.0 (plans c.before.before b of)
+    let (b, of, e) = c.requires in
+    let a = c.args in
+    walk-short b of.well a.rec a.paths.now a.walk.now a.named.now e _ (enters c.before.before.before.before.before.before.before b of e) c.find-found.result c.find-found.new.1.1.1.1.1.1.0 (plans c.before.before b of)
 
-same_length : tie.Need-same-length
+same_length : tie.Need-shape_of-paths
 same_length c = search rules
 
-same-length-2 : tie.Need-same-length-2
+same-length-2 : tie.Need-shape_of-walk
 same-length-2 c = search rules
 
 returns : tie.Need-returns
 returns c =
-    let a = c.before.before.before.before.before.before.before.before.before.before.before.before.before.before.args in
+    let a = c.args in
     λ b of e.
-    ap (λ (z : Record). answering (Reported.Accepted z) c.before.before.before.before.before.before.before.before.before.enter.new.1.1.0 c.before.before.before.find.new.1.1.1.1.1.1.0)
-    (c.replanned.ensures ∙ ap (λ (z : Record). replanned z c.before.before.before.find.result) c.before.before.before.before.before.before.failed.ensures)
-    ∙ has_failed b of.well a.rec a.paths.now a.walk.now a.named.now e _ (enters c.before.before.before.before.before.before.before.before.before b of e) c.before.before.before.find.result c.before.before.before.find.new.1.1.1.1.1.1.0 (plans c.before.before.before b of)
+    ap (λ (z : Record). answering (Reported.Accepted z) c.enter.new.1.1.0 c.find-found.new.1.1.1.1.1.1.0)
+    (c.replanned.ensures ∙ ap (λ (z : Record). replanned z c.find-found.result) c.failed-next.ensures)
+    ∙ has_failed b of.well a.rec a.paths.now a.walk.now a.named.now e _ (enters c.before.before.before.before.before.before.before.before b of e) c.find-found.result c.find-found.new.1.1.1.1.1.1.0 (plans c.before.before.before b of)
 
-pub replan-spec : {M : Type 1} → statement M
-replan-spec =
+pub replan_spec : {M : Type 1} → statement M
+replan_spec =
     tie.close
     (tie.spec
     enter-requires

@@ -10,42 +10,38 @@ use Rattle.trials.proofs.report.report_passed.Statement.{statement}
 use Rattle.trials.proofs.report.report_passed.Tie as tie
 
 -- the book that was read
-book : (c : tie.After-known-told2)
-    → let load = c.before.before.before in
-    Loaded c.before.before.before.before.before.before.before.before.before.before.before.args.bytes.now c.before.read2.given.0.0 load.load.new.1.0 load.load.new.1.1.0 load.load.new.1.1.1.0 load.load.new.1.1.1.1.0
+book : (c : tie.In-Read)
+    → Loaded c.args.bytes.now c.in-Read.counts c.load-read.new.1.0 c.load-read.new.1.1.0 c.load-read.new.1.1.1.0 c.load-read.new.1.1.1.1.0
 book c =
-    let load = c.before.before.before in
-    loaded c.before.before.before.before.before.before.before.before.before.before.before.args.bytes.now load.load.result c.before.read2.given.0.0 _ _ _ _
-    load.load.ensures.0 load.load.ensures.1 c.before.read2.given.1
+    loaded c.args.bytes.now c.load-read.result c.in-Read.counts _ _ _ _
+    c.load-read.ensures.0 c.load-read.ensures.1 c.in-Read.is
 
-load-requires : tie.Need-load-requires
+load-requires : tie.Need-load-read-requires
 load-requires c κs = search rules
 
-enum-known-read : tie.Need-enum-known-read
+enum-known-read : tie.Need-enum_known-read
 enum-known-read c = search rules
 
-enum-known-read-2 : tie.Need-enum-known-read-2
+enum-known-read-2 : tie.Need-enum_known-read-in-Read-1
 enum-known-read-2 c = search rules
 
-accept-passed-requires : tie.Need-accept-passed-requires
+accept-passed-requires : tie.Need-accept_passed-requires
 accept-passed-requires c κs =
     let b = book c.before in
     (b.book, b.tables.graph)
 
-returns : tie.Need-returns
+returns : tie.Need-returns-in-Refused
 returns c =
-    let load = c.before.before.before in
-    let a = c.before.before.before.before.before.before.before.before.before.before.before.args in
-    sym (ap (λ x. reporting_of x a.rec a.paths.now a.walk.now passed) (answer-refused (reading a.bytes.now) _ (sym load.load.ensures.0 ∙ c.before.read.given.1)))
+    let a = c.args in
+    sym (ap (λ x. reporting_of x a.rec a.paths.now a.walk.now passed) (answer-refused (reading a.bytes.now) _ (sym c.load-read.ensures.0 ∙ c.in-Refused.is)))
 
-returns-2 : tie.Need-returns-2
+returns-2 : tie.Need-returns-in-Read
 returns-2 c =
-    let told = c.before.before in
-    let a = c.before.before.before.before.before.before.before.before.before.before.before.before.before.args in
-    c.accept-passed.ensures (book told).book (book told).tables.graph ∙ sym (ap (λ x. reporting_of x a.rec a.paths.now a.walk.now passed) (book told).is)
+    let a = c.args in
+    c.accept_passed.ensures (book c.before.before).book (book c.before.before).tables.graph ∙ sym (ap (λ x. reporting_of x a.rec a.paths.now a.walk.now passed) (book c.before.before).is)
 
-pub report-passed-spec : {M : Type 1} → statement M
-report-passed-spec =
+pub report_passed_spec : {M : Type 1} → statement M
+report_passed_spec =
     tie.close
     (tie.spec
     load-requires

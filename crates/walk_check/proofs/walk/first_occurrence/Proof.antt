@@ -21,11 +21,11 @@ use borrow.Author.Rules.{rules}
 use Rattle.walk_check.proofs.walk.first_occurrence.Statement.{statement}
 use Rattle.walk_check.proofs.walk.first_occurrence.Tie as tie
 
-abbrev invariant-loop2 : tie.invariant-loop2
+abbrev invariant-loop2 : tie.invariant-loop-i
 invariant-loop2 area count walk answer end n place k at i₀ i =
     (i ≤ n) × (same (drop i (take n (drop (at + 1) area))) (drop i (take n (drop place walk))) ≡ same (take n (drop (at + 1) area)) (take n (drop place walk)))
 
-abbrev decreases-loop2 : tie.decreases-loop2
+abbrev decreases-loop2 : tie.decreases-loop-i
 decreases-loop2 area count walk answer end n place k at i₀ i = n - i
 
 abbrev invariant-paths : tie.invariant-paths
@@ -36,11 +36,11 @@ invariant-paths area count walk answer₀ end n place k₀ answer k =
 abbrev decreases-paths : tie.decreases-paths
 decreases-paths area count walk answer₀ end n place k₀ answer k = count - k
 
-abbrev invariant-loop : tie.invariant-loop
+abbrev invariant-loop : tie.invariant-loop-n
 invariant-loop area count walk answer₀ end n₀ answer n =
     (2 ≤ n) × (n ≤ 9) × (answer ≡ Clear) × (first_from (some_ends (spelled count area) walk end) (9 - n) n ≡ named_at (spelled count area) walk end)
 
-abbrev decreases-loop : tie.decreases-loop
+abbrev decreases-loop : tie.decreases-loop-n
 decreases-loop area count walk answer₀ end n₀ answer n = 9 - n
 
 abbrev invariant-ends : tie.invariant-ends
@@ -55,7 +55,7 @@ abbrev Ends : Type 0
 Ends = tie.At-ends invariant-loop2 decreases-loop2 invariant-paths decreases-paths invariant-loop decreases-loop invariant-ends decreases-ends
 
 abbrev Lengths : Type 0
-Lengths = tie.At-loop invariant-loop2 decreases-loop2 invariant-paths decreases-paths invariant-loop decreases-loop invariant-ends decreases-ends
+Lengths = tie.At-loop-n invariant-loop2 decreases-loop2 invariant-paths decreases-paths invariant-loop decreases-loop invariant-ends decreases-ends
 
 abbrev Paths : Type 0
 Paths = tie.At-paths invariant-loop2 decreases-loop2 invariant-paths decreases-paths invariant-loop decreases-loop invariant-ends decreases-ends
@@ -93,8 +93,8 @@ module _ (l : Lengths) where
   ends = omega (arith, l.before.ends-test.taken)
 
 -- the length that is tried is at most the end
-begins-at : (c : tie.Then1 invariant-loop2 decreases-loop2 invariant-paths decreases-paths invariant-loop decreases-loop invariant-ends decreases-ends) → n c.before.before ≤ end (ends_of c.before.before)
-begins-at c = leb-true _ _ c.if1.true
+begins-at : (c : tie.Then-n-end invariant-loop2 decreases-loop2 invariant-paths decreases-paths invariant-loop decreases-loop invariant-ends decreases-ends) → n c.before.before ≤ end (ends_of c.before.before)
+begins-at c = leb-true _ _ c.if-n-end.true-raw
 
 module _ (p : Paths) where
   abbrev lengths-of : Lengths
@@ -104,7 +104,7 @@ module _ (p : Paths) where
   k = p.paths.k
 
 -- A path of the length that is tried, held against the walk.
-module _ (e : tie.Else2 invariant-loop2 decreases-loop2 invariant-paths decreases-paths invariant-loop decreases-loop invariant-ends decreases-ends) where
+module _ (e : tie.Else-wide-n invariant-loop2 decreases-loop2 invariant-paths decreases-paths invariant-loop decreases-loop invariant-ends decreases-ends) where
   abbrev paths-of : Paths
   paths-of = e.before.before.before.before
 
@@ -122,85 +122,74 @@ module _ (e : tie.Else2 invariant-loop2 decreases-loop2 invariant-paths decrease
 
 ends-holds : tie.Need-ends-init invariant-loop2 decreases-loop2 invariant-paths decreases-paths invariant-loop decreases-loop invariant-ends decreases-ends
 ends-holds c =
-    let a = c.before.before.args in
+    let a = c.args in
     (omega arith, omega arith, refl, ap (λ k. check_from (spelled a.count a.area.now) a.walk.now k 1) (let all_left : length a.walk.now + 1 - 1 ≡ length a.walk.now = omega arith in all_left))
 
 paths-holds : tie.Need-paths-init invariant-loop2 decreases-loop2 invariant-paths decreases-paths invariant-loop decreases-loop invariant-ends decreases-ends
 paths-holds c =
-    let l = c.before.before in
-    let s = ends_of l in
-    (omega arith, l.loop.invariant.2, paths-start (area s) (count s) (walk s) (room s) (fit s) (end s) (n l))
+    let s = ends_of c.before.before in
+    (omega arith, c.loop-n.invariant.2, paths-start (area s) (count s) (walk s) (room s) (fit s) (end s) (n c.before.before))
 
-entry_read : tie.Need-shared-slice-read-wide invariant-loop2 decreases-loop2 invariant-paths decreases-paths invariant-loop decreases-loop invariant-ends decreases-ends
-entry_read c = omega (arith, room (ends_of (lengths-of c.before.before)), c.before.paths-test.true)
+entry_read : tie.Need-bounds-area-at invariant-loop2 decreases-loop2 invariant-paths decreases-paths invariant-loop decreases-loop invariant-ends decreases-ends
+entry_read c = omega (arith, room (ends_of (lengths-of c.before.before)), c.paths-test.true)
 
-paths-again : tie.Need-paths-preserved invariant-loop2 decreases-loop2 invariant-paths decreases-paths invariant-loop decreases-loop invariant-ends decreases-ends
+paths-again : tie.Need-paths-preserved-then-wide-n invariant-loop2 decreases-loop2 invariant-paths decreases-paths invariant-loop decreases-loop invariant-ends decreases-ends
 paths-again c =
-    let p = c.before.before.before.before in
-    let l = lengths-of p in
+    let l = lengths-of c.before.before.before.before in
     let s = ends_of l in
-    let passed = other_length (area s) (count s) (walk s) (room s) (fit s) (end s) (n l) (k p) c.before.before.before.paths-test.true (λ e. c.if2.true (c.before.wide.ensures.0 ∙ e)) in
-    (omega arith, p.paths.invariant.1, sym passed ∙ p.paths.invariant.2)
+    let passed = other_length (area s) (count s) (walk s) (room s) (fit s) (end s) (n l) (k c.before.before.before.before) c.paths-test.true (λ e. c.if-wide-n.true (c.wide.ensures.0 ∙ e)) in
+    (omega arith, c.paths.invariant.1, sym passed ∙ c.paths.invariant.2)
 
-paths-again-2 : tie.Need-paths-preserved-2 invariant-loop2 decreases-loop2 invariant-paths decreases-paths invariant-loop decreases-loop invariant-ends decreases-ends
+paths-again-2 : tie.Need-paths-preserved invariant-loop2 decreases-loop2 invariant-paths decreases-paths invariant-loop decreases-loop invariant-ends decreases-ends
 paths-again-2 c =
-    let at-loop2 = c.before.before.before.before in
-    let e = at-loop2.before in
-    let p = paths-of e in
+    let p = paths-of c.before.before.before.before.before in
     let l = lengths-of p in
     let s = ends_of l in
-    let differ = parts-differ (area s) (walk s) (k p * entry_size + 1) (end s - n l) (n l) (in_area e) (in-walk e) at-loop2.loop2.i c.before.before.before.loop2-test.true c.if3.true in
+    let differ = parts-differ (area s) (walk s) (k p * entry_size + 1) (end s - n l) (n l) (in_area c.before.before.before.before.before) (in-walk c.before.before.before.before.before) c.loop-i.i c.loop-i-test.true c.if-area-at.true in
     let passed =
-    differs (area s) (count s) (walk s) (room s) (fit s) (end s) (n l) (k p) (more e) (length-is e) (begins-at p.before) (ends l) (sym at-loop2.loop2.invariant.1 ∙ differ) in
+    differs (area s) (count s) (walk s) (room s) (fit s) (end s) (n l) (k p) (more c.before.before.before.before.before) (length-is c.before.before.before.before.before) (begins-at p.before) (ends l) (sym c.loop-i.invariant.1 ∙ differ) in
     (omega arith, p.paths.inv.1, sym passed ∙ p.paths.inv.2)
 
-loop2-again : tie.Need-loop2-preserved invariant-loop2 decreases-loop2 invariant-paths decreases-paths invariant-loop decreases-loop invariant-ends decreases-ends
+loop2-again : tie.Need-loop-i-preserved invariant-loop2 decreases-loop2 invariant-paths decreases-paths invariant-loop decreases-loop invariant-ends decreases-ends
 loop2-again c =
-    let at-loop2 = c.before.before.before.before in
-    let e = at-loop2.before in
-    let p = paths-of e in
+    let p = paths-of c.before.before.before.before.before in
     let l = lengths-of p in
     let s = ends_of l in
-    let agree = parts_next (area s) (walk s) (k p * entry_size + 1) (end s - n l) (n l) (in_area e) (in-walk e) at-loop2.loop2.i c.before.before.before.loop2-test.true c.if3.false in
-    (omega arith, sym agree ∙ at-loop2.loop2.invariant.1)
+    let agree = parts_next (area s) (walk s) (k p * entry_size + 1) (end s - n l) (n l) (in_area c.before.before.before.before.before) (in-walk c.before.before.before.before.before) c.loop-i.i c.loop-i-test.true c.if-area-at.false in
+    (omega arith, sym agree ∙ c.loop-i.invariant.1)
 
-loop-again : tie.Need-loop-preserved invariant-loop2 decreases-loop2 invariant-paths decreases-paths invariant-loop decreases-loop invariant-ends decreases-ends
+loop-again : tie.Need-loop-n-preserved invariant-loop2 decreases-loop2 invariant-paths decreases-paths invariant-loop decreases-loop invariant-ends decreases-ends
 loop-again c =
-    let p = c.before in
-    let l = lengths-of p in
+    let l = lengths-of c.before in
     let s = ends_of l in
-    let missed = sym p.paths.invariant.2 ∙ paths_past (area s) (count s) (walk s) (room s) (fit s) (end s) (n l) (k p) c.paths-test.false in
-    let later = first-later (some_ends (known s) (walk s) (end s)) (n l) (omega (arith, p.before.before.loop-test.true)) missed in
-    (omega arith, omega arith, p.paths.invariant.1, sym later ∙ l.loop.inv.3)
+    let missed = sym c.paths.invariant.2 ∙ paths_past (area s) (count s) (walk s) (room s) (fit s) (end s) (n l) (k c.before) c.paths-test.false in
+    let later = first-later (some_ends (known s) (walk s) (end s)) (n l) (omega (arith, c.loop-n-test.true)) missed in
+    (omega arith, omega arith, c.paths.invariant.1, sym later ∙ l.loop.inv.3)
 
 ends-again : tie.Need-ends-preserved invariant-loop2 decreases-loop2 invariant-paths decreases-paths invariant-loop decreases-loop invariant-ends decreases-ends
 ends-again c =
-    let l = c.before in
-    let s = ends_of l in
+    let s = ends_of c.before in
     let none_named =
-    sym l.loop.invariant.3
-    ∙ ⊎_elim (λ x. lengths_past (known s) (walk s) (end s) (n l) (leb-false _ _ x.1.left)) (λ x. lengths_done (known s) (walk s) (end s) (n l) x.left) c.loop-test.branch in
-    (omega arith, omega (arith, ends l), l.loop.invariant.2, sym (ends-later (known s) (walk s) (end s) (ends l) none_named) ∙ s.ends.inv.3)
+    sym c.loop-n.invariant.3
+    ∙ ⊎_elim (λ x. lengths_past (known s) (walk s) (end s) (n c.before) (leb-false _ _ x.1.left)) (λ x. lengths_done (known s) (walk s) (end s) (n c.before) x.left) c.loop-n-test.branch in
+    (omega arith, omega (arith, ends c.before), c.loop-n.invariant.2, sym (ends-later (known s) (walk s) (end s) (ends c.before) none_named) ∙ s.ends.inv.3)
 
-returns : tie.Need-returns invariant-loop2 decreases-loop2 invariant-paths decreases-paths invariant-loop decreases-loop invariant-ends decreases-ends
+returns : tie.Need-returns-after-ends invariant-loop2 decreases-loop2 invariant-paths decreases-paths invariant-loop decreases-loop invariant-ends decreases-ends
 returns c =
-    let s = c.before in
-    s.ends.invariant.2 ∙ sym (ends_past (known s) (walk s) (end s) c.ends-test.false) ∙ s.ends.invariant.3
+    c.ends.invariant.2 ∙ sym (ends_past (known c.before) (walk c.before) (end c.before) c.ends-test.false) ∙ c.ends.invariant.3
 
-returns-2 : tie.Need-returns-2 invariant-loop2 decreases-loop2 invariant-paths decreases-paths invariant-loop decreases-loop invariant-ends decreases-ends
+returns-2 : tie.Need-returns-after-loop-i invariant-loop2 decreases-loop2 invariant-paths decreases-paths invariant-loop decreases-loop invariant-ends decreases-ends
 returns-2 c =
-    let at-loop2 = c.before in
-    let e = at-loop2.before in
-    let p = paths-of e in
+    let p = paths-of c.before.before in
     let l = lengths-of p in
     let s = ends_of l in
-    let agree = parts_past (area s) (walk s) (k p * entry_size + 1) (end s - n l) (n l) (in_area e) (in-walk e) at-loop2.loop2.i c.loop2-test.false in
-    let found = stands (area s) (count s) (walk s) (room s) (fit s) (end s) (n l) (k p) (more e) (length-is e) (begins-at p.before) (ends l) (sym at-loop2.loop2.invariant.1 ∙ agree) in
+    let agree = parts_past (area s) (walk s) (k p * entry_size + 1) (end s - n l) (n l) (in_area c.before.before) (in-walk c.before.before) c.loop-i.i c.loop-i-test.false in
+    let found = stands (area s) (count s) (walk s) (room s) (fit s) (end s) (n l) (k p) (more c.before.before) (length-is c.before.before) (begins-at p.before) (ends l) (sym c.loop-i.invariant.1 ∙ agree) in
     let named = first-here (some_ends (known s) (walk s) (end s)) (n l) (omega (arith, l.loop.inv.1, p.before.before.loop-test.taken)) (sym p.paths.inv.2 ∙ found) in
     sym (ends-here (known s) (walk s) (end s) (ends l) (n l) (sym l.loop.inv.3 ∙ named)) ∙ s.ends.inv.3
 
-pub first-occurrence-spec : {M : Type 1} → statement M
-first-occurrence-spec =
+pub first_occurrence_spec : {M : Type 1} → statement M
+first_occurrence_spec =
     tie.close
     (tie.spec
     invariant-loop2
