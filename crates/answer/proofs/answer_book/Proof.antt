@@ -23,19 +23,19 @@ enum-known-read-2 : tie.Need-enum_known-read-in-Read-1
 enum-known-read-2 c = search rules
 
 -- the book that was read
-book : (c : tie.In-Read-2)
+book : (c : tie.In-Read)
     → Loaded c.args.bytes.now c.in-Read.counts
-    c.load-read.new.1.0 c.load-read.new.1.1.0 c.load-read.new.1.1.1.0 c.load-read.new.1.1.1.1.0
+    c.load-read.new.weights c.load-read.new.flags c.load-read.new.owners c.load-read.new.entries
 book c =
     loaded c.args.bytes.now c.load-read.result c.in-Read.counts _ _ _ _
     c.load-read.ensures.0 c.load-read.ensures.1 c.in-Read.is
 
 slice-aggregate-answer-loaded : tie.Need-slice_bounds-answer_loaded-end
-slice-aggregate-answer-loaded c = sym (sets-entries (book c.before.before.before.before.before).tables.sets)
+slice-aggregate-answer-loaded c = sym (sets-entries (book c.before.before.before.before).tables.sets)
 
 answer-loaded-requires : tie.Need-answer_loaded-requires
 answer-loaded-requires c κs =
-    let b = book c.before.before.before.before.before.before in
+    let b = book c.before.before.before.before.before in
     ((b.book, b.tables), c.requires)
 
 same_length : tie.Need-shape_of-out-in-Refused
@@ -57,8 +57,8 @@ same-length-2 c = search rules
 returns-2 : tie.Need-returns-in-Read
 returns-2 c =
     let a = c.args in
-    let b = book c.before.before.before.before.before.before.before.before.before in
-    subst (λ x. WroteSome (AnsweredOf x a.flags a.start a.end) a.out.now c.answer_loaded.result c.answer_loaded.new.1.1.1.1.1.1.1.1.0)
+    let b = book c.before.before.before.before.before.before.before.before in
+    subst (λ x. WroteSome (AnsweredOf x a.flags a.start a.end) a.out.now c.answer_loaded.result c.answer_loaded.new.out)
     (sym b.is) (c.answer_loaded.ensures b.book b.tables)
 
 pub answer_book_spec : {M : Type 1} → statement M

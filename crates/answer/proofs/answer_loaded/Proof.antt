@@ -69,7 +69,7 @@ gather-requires c κs = search rules
 gathered : (c : tie.After-gather-count)
     → let a = c.args in
     (b : Book) → IsSets b a.counts.paths a.needed.now a.owners.now a.entries.now
-    → (c.gather-count.result ≡ length (known a.flags b.sets)) × (c.gather-count.new.1.1.1.1.1.0 ≡ written (known a.flags b.sets))
+    → (c.gather-count.result ≡ length (known a.flags b.sets)) × (c.gather-count.new.area ≡ written (known a.flags b.sets))
 gathered c = c.gather-count.ensures
 
 slice-aggregate-find : tie.Need-slice_bounds-find-end
@@ -84,7 +84,7 @@ find-requires c κs =
     let (counted, filled) = gathered c.before.before.before b h.sets in (
       (b, h.graph),
       (
-        ap (λ n. valid n c.gather-count.new.1.1.1.1.1.0 c.gather-count.result) h.graph.vertices_are ∙ gathered_valid c.args.flags b h.graph.well counted filled,
+        ap (λ n. valid n c.gather-count.new.area c.gather-count.result) h.graph.vertices_are ∙ gathered_valid c.args.flags b h.graph.well counted filled,
         (c.if-vertices-start.false, omega (arith, fresh)),
       ),
     )
@@ -93,11 +93,11 @@ find-requires c κs =
 found : (c : tie.After-find-found)
     → let a = c.args in
     (b : Book) → IsLoaded b a.counts a.weights.now a.needed.now a.owners.now a.entries.now
-    → Searched (graph b) (known a.flags b.sets) a.start a.end fresh-walk c.find-found.result c.find-found.new.1.1.1.1.1.1.0
+    → Searched (graph b) (known a.flags b.sets) a.start a.end fresh-walk c.find-found.result c.find-found.new.walk
 found c b h =
     let a = c.args in
     let (counted, filled) = gathered c.before.before.before.before b h.sets in
-    subst (λ G. Searched (graph b) G a.start a.end fresh-walk c.find-found.result c.find-found.new.1.1.1.1.1.1.0)
+    subst (λ G. Searched (graph b) G a.start a.end fresh-walk c.find-found.result c.find-found.new.walk)
     (gathered_spells a.flags b h.graph.well counted filled) (c.find-found.ensures b h.graph)
 
 slice-aggregate-found-text : tie.Need-slice_bounds-found_text-end
@@ -107,7 +107,7 @@ found-text-requires : tie.Need-found_text-requires
 found-text-requires c κs =
     let (b, h) = c.requires.0 in (
       found-standing (graph b) _ c.args.start c.args.end fresh-walk _ c.find-found.result (found c.before.before.before b h),
-      (omega (arith, c.find-found.auto.1.1.1.1.1.1.0, fresh), c.requires.1),
+      (omega (arith, c.find-found.auto.walk, fresh), c.requires.1),
     )
 
 same-length-3 : tie.Need-shape_of-out
@@ -116,7 +116,7 @@ same-length-3 c = search rules
 returns-3 : tie.Need-returns
 returns-3 c b h =
     let a = c.args in
-    let text = found_text c.find-found.result c.find-found.new.1.1.1.1.1.1.0 in
+    let text = found_text c.find-found.result c.find-found.new.walk in
     record {
       text = text;
       is =

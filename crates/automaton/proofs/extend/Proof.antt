@@ -19,20 +19,20 @@ entry c = entry-room c.requires.2.spells c.requires.1 c.requires.2.so_far
 level : (c : tie.Else-size-level) → (start_of c.before).args.level < 8
 level c =
     let start = start_of c.before in
-    low-level start.pre.2.spells start.pre.1 start.pre.2.so_far c.wide-size.ensures.0 c.if-size-level.false
+    low-level start.requires.2.spells start.requires.1 start.requires.2.so_far c.wide-size.ensures.0 c.if-size-level.false
 
 -- the state and the vertex that are read
 cell : (c : tie.After-wide-v) → let a = (start_of c.before.before.before.before.before.before).args in
     (c.index-q.result < a.states) × (a.states ≤ most_states) × (c.wide-v.result < 64) × (a.states * 64 ≤ length a.steps.now) × (a.states ≤ length a.blocked.now)
 cell c =
     let start = start_of c.before.before.before.before.before.before in
-    cell_room start.pre.2.spells start.pre.1 start.pre.2.so_far c.wide-size.ensures.0 c.if-size-level.false c.index-q.ensures c.wide-v.ensures.0
+    cell_room start.requires.2.spells start.requires.1 start.requires.2.so_far c.wide-size.ensures.0 c.if-size-level.false c.index-q.ensures c.wide-v.ensures.0
 
 -- a new state has a number
 grows : (c : tie.Else-first-index) → let a = (start_of c.before.before.before.before.before.before.before.before.before.before).args in (a.states + 1 ≤ most_states) × (a.states + 1 ≤ length a.latest.now) × (a.states + 1 ≤ length a.fail.now)
 grows c =
     let start = start_of c.before.before.before.before.before.before.before.before.before.before in
-    turn-room start.pre.2.spells start.pre.1 start.pre.2.so_far c.wide-size.ensures.0 c.if-size-level.false c.index-q.ensures c.wide-v.ensures.0 c.if-size-level-2.false (omega (arith, c.if-first-index.false, c.index.ensures))
+    turn-room start.requires.2.spells start.requires.1 start.requires.2.so_far c.wide-size.ensures.0 c.if-size-level.false c.index-q.ensures c.wide-v.ensures.0 c.if-size-level-2.false (omega (arith, c.if-first-index.false, c.index.ensures))
 
 mul_wide : tie.Need-offset_bounds-area-i
 mul_wide c = omega (arith, entry c.before.before.before.before.before)

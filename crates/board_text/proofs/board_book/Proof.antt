@@ -22,19 +22,19 @@ enum-known-read-2 : tie.Need-enum_known-read-in-Read-1
 enum-known-read-2 c = search rules
 
 -- the book that was read
-book : (c : tie.In-Read-2)
+book : (c : tie.In-Read)
     → Loaded c.args.bytes.now c.in-Read.counts
-    c.load-read.new.1.0 c.load-read.new.1.1.0 c.load-read.new.1.1.1.0 c.load-read.new.1.1.1.1.0
+    c.load-read.new.weights c.load-read.new.flags c.load-read.new.owners c.load-read.new.entries
 book c =
     loaded c.args.bytes.now c.load-read.result c.in-Read.counts _ _ _ _
     c.load-read.ensures.0 c.load-read.ensures.1 c.in-Read.is
 
 slice-aggregate-board-loaded : tie.Need-slice_bounds-board_loaded-end
-slice-aggregate-board-loaded c = sym (sets-entries (book c.before.before.before.before.before).tables.sets)
+slice-aggregate-board-loaded c = sym (sets-entries (book c.before.before.before.before).tables.sets)
 
 board-loaded-requires : tie.Need-board_loaded-requires
 board-loaded-requires c κs =
-    let b = book c.before.before.before.before.before.before in
+    let b = book c.before.before.before.before.before in
     ((b.book, b.tables), c.requires)
 
 same_length : tie.Need-shape_of-out-in-Refused
@@ -52,7 +52,7 @@ same-length-2 c = search rules
 returns-2 : tie.Need-returns-in-Read
 returns-2 c =
     let a = c.args in
-    let b = book c.before.before.before.before.before.before.before.before.before in
+    let b = book c.before.before.before.before.before.before.before.before in
     wrote_as (ap (λ x. board_of x a.flags a.start) (sym b.is)) (c.board_loaded.ensures b.book b.tables)
 
 pub board_book_spec : {M : Type 1} → statement M

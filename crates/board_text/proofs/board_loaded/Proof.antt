@@ -38,7 +38,7 @@ gather-requires c κs = search rules
 gathered : (c : tie.After-gather-count)
     → let a = c.args in
     (b : Book) → IsSets b a.counts.paths a.needed.now a.owners.now a.entries.now
-    → (c.gather-count.result ≡ length (known a.flags b.sets)) × (c.gather-count.new.1.1.1.1.1.0 ≡ written (known a.flags b.sets))
+    → (c.gather-count.result ≡ length (known a.flags b.sets)) × (c.gather-count.new.area ≡ written (known a.flags b.sets))
 gathered c = c.gather-count.ensures
 
 slice-aggregate-fill : tie.Need-slice_bounds-fill-end
@@ -53,7 +53,7 @@ fill-requires c κs =
     let (counted, filled) = gathered c.before.before.before b h.sets in (
       (b, h.graph),
       (
-        ap (λ n. valid n c.gather-count.new.1.1.1.1.1.0 c.gather-count.result) h.graph.vertices_are ∙ gathered_valid c.args.flags b h.graph.well counted filled,
+        ap (λ n. valid n c.gather-count.new.area c.gather-count.result) h.graph.vertices_are ∙ gathered_valid c.args.flags b h.graph.well counted filled,
         (c.if-vertices-start.false, omega (arith, h.graph.vertices_are, h.graph.well.few-vertices, length-replicate {A = ℕ} (2 * most_vertices) 0)),
       ),
     )
@@ -62,7 +62,7 @@ fill-requires c κs =
 filled-lines : (c : tie.After-fill)
     → let a = c.args in
     (b : Book) → IsLoaded b a.counts a.weights.now a.needed.now a.owners.now a.entries.now
-    → table_lines c.fill.new.1.1.1.1.1.0 a.counts.vertices ≡ lines (graph b) (known a.flags b.sets) a.start b.count
+    → table_lines c.fill.new.table a.counts.vertices ≡ lines (graph b) (known a.flags b.sets) a.start b.count
 filled-lines c b h =
     let a = c.args in
     let (counted, filled) = gathered c.before.before.before.before b h.sets in

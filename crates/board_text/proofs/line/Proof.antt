@@ -21,18 +21,18 @@ decimal-requires c κs =
 
 word-requires : tie.Need-word-blank-requires
 word-requires c κs =
-    omega (arith, c.decimal-number.ensures.place, c.decimal-number.auto.1.0, c.requires, size c.before.before.before.before.before.before.before.before)
+    omega (arith, c.decimal-number.ensures.place, c.decimal-number.auto.out, c.requires, size c.before.before.before.before.before.before.before.before)
 
 -- the vertex and the blank
 front : (c : tie.After-word-blank)
     → let a = c.args in
-    Wrote (decimal a.v ++ (32 ∷ [])) a.at a.out.now c.word-blank.result c.word-blank.new.1.0 × (c.word-blank.result ≤ a.at + 21)
+    Wrote (decimal a.v ++ (32 ∷ [])) a.at a.out.now c.word-blank.result c.word-blank.new.out × (c.word-blank.result ≤ a.at + 21)
 front c =
     (wrote_then c.decimal-number.ensures c.word-blank.ensures, omega (arith, c.decimal-number.ensures.place, c.word-blank.ensures.place, size c.before.before.before.before.before.before.before.before.before))
 
 word-requires-2 : tie.Need-word-requires
 word-requires-2 c κs =
-    omega (arith, (front c.before.before.before.before.before.before).1, c.word-blank.auto.1.0, c.decimal-number.auto.1.0, c.requires)
+    omega (arith, (front c.before.before.before.before.before.before).1, c.word-blank.auto.out, c.decimal-number.auto.out, c.requires)
 
 same_length : tie.Need-shape_of-out-then-weight-eq-NO_END
 same_length c = search rules
@@ -46,7 +46,7 @@ returns c =
 
 cost-text-requires : tie.Need-cost_text-requires
 cost-text-requires c κs =
-    omega (arith, (front c.before.before.before.before).1, c.word-blank.auto.1.0, c.decimal-number.auto.1.0, c.requires)
+    omega (arith, (front c.before.before.before.before).1, c.word-blank.auto.out, c.decimal-number.auto.out, c.requires)
 
 same-length-2 : tie.Need-shape_of-out
 same-length-2 c = search rules

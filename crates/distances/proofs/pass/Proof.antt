@@ -10,6 +10,7 @@ use Rattle.distances.specs.Edge.{edges}
 use Rattle.distances.specs.Columns.{edge_at, edge-at-mem, drop-edges, length-edges_le}
 use Rattle.distances.proofs.Turn.{Turn, turn-none, turn-all, turn_lower, turn_keep}
 use Rattle.distances.proofs.pass.Statement.{statement}
+use Rattle.distances.proofs.pass.Lts.{then-reach-new, else-reach-new}
 use Rattle.distances.proofs.pass.Tie as tie
 
 abbrev invariant-loop : tie.invariant-loop-i
@@ -92,9 +93,10 @@ loop-again c =
     let es = edges a.tails.now a.heads.now a.costs.now in
     let t : Turn es a.old.now (edge_at a.tails.now a.heads.now a.costs.now c.loop-i.i ∷ drop (c.loop-i.i + 1) es) c.loop-i.new c.loop-i.changed =
     rw (add-one, ← drop-edges a.tails.now a.heads.now a.costs.now c.loop-i.i (omega arith) (omega arith) (omega arith)) c.loop-i.invariant.2 in
-    ⊎_elim (λ w. (omega arith, rw w.1 (simp length-set (omega arith)), rw (w.1, w.2) (turn_lower es a.old.now _ _ c.loop-i.new c.loop-i.changed w.0.taken t)))
-    (λ w. (omega arith, omega (arith, ap length w.1), rw (w.1, w.2) (turn_keep es a.old.now _ _ c.loop-i.new c.loop-i.changed w.0.left t)))
-    c.if-reach-new.branch
+    elim c.if-reach-new.branch [
+      then-reach-new w ↦ (omega arith, rw w.new-is (simp length-set (omega arith)), rw (w.new-is, w.changed-is) (turn_lower es a.old.now _ _ c.loop-i.new c.loop-i.changed w.if-reach-new.true t))
+    | else-reach-new w ↦ (omega arith, omega (arith, ap length w.new-is), rw (w.new-is, w.changed-is) (turn_keep es a.old.now _ _ c.loop-i.new c.loop-i.changed w.if-reach-new.false t))
+    ]
 
 same_length : tie.Need-shape_of-new invariant-loop decreases-loop
 same_length c = omega (arith, ap length c.requires.1)

@@ -25,7 +25,7 @@ round-requires c κs =
 -- a round goes on from the first table
 after : (c : tie.After-round invariant-loop decreases-loop) →
     let a = c.args in
-    Progress (edges a.tails.now a.heads.now a.costs.now) a.table.now c.round.new.1.1.1.1.1.0 c.round.new.1.1.1.1.1.1.0
+    Progress (edges a.tails.now a.heads.now a.costs.now) a.table.now c.round.new.table c.round.new.seen
 after c = c.round.ensures.progress _ c.loop.invariant
 
 loop-less : tie.Need-loop-smaller invariant-loop decreases-loop

@@ -29,37 +29,37 @@ fill-ends-requires c κs =
     (measured_standing (c.measure-states.ensures.1 g given.paths count-is weighed given.spells given.bounded), s.pre.1.1.0.1)
 
 same_length : tie.Need-shape_of-table
-same_length c = c.fill_ends.auto.1.1.1.0
+same_length c = c.fill_ends.auto.ends
 
 same-length-2 : tie.Need-shape_of-steps
-same-length-2 c = c.measure-states.auto.1.1.1.1.1.1.0
+same-length-2 c = c.measure-states.auto.steps
 
 same-length-3 : tie.Need-shape_of-blocked
-same-length-3 c = c.measure-states.auto.1.1.1.1.1.1.1.0
+same-length-3 c = c.measure-states.auto.blocked
 
 same-length-4 : tie.Need-shape_of-latest
-same-length-4 c = c.measure-states.auto.1.1.1.1.1.1.1.1.0
+same-length-4 c = c.measure-states.auto.latest
 
 same-length-5 : tie.Need-shape_of-tails
-same-length-5 c = c.measure-states.auto.1.1.1.1.1.1.1.1.1.0
+same-length-5 c = c.measure-states.auto.tails
 
 same-length-6 : tie.Need-shape_of-heads
-same-length-6 c = c.measure-states.auto.1.1.1.1.1.1.1.1.1.1.0
+same-length-6 c = c.measure-states.auto.heads
 
 same-length-7 : tie.Need-shape_of-costs
-same-length-7 c = c.measure-states.auto.1.1.1.1.1.1.1.1.1.1.1.0
+same-length-7 c = c.measure-states.auto.costs
 
 same-length-8 : tie.Need-shape_of-first
-same-length-8 c = c.measure-states.auto.1.1.1.1.1.1.1.1.1.1.1.1.0
+same-length-8 c = c.measure-states.auto.first
 
 same-length-9 : tie.Need-shape_of-next
-same-length-9 c = c.measure-states.auto.1.1.1.1.1.1.1.1.1.1.1.1.1.0
+same-length-9 c = c.measure-states.auto.next
 
 same-length-10 : tie.Need-shape_of-seen
-same-length-10 c = c.measure-states.auto.1.1.1.1.1.1.1.1.1.1.1.1.1.1.0
+same-length-10 c = c.measure-states.auto.seen
 
 same-length-11 : tie.Need-shape_of-distances
-same-length-11 c = c.measure-states.auto.1.1.1.1.1.1.1.1.1.1.1.1.1.1.1.0
+same-length-11 c = c.measure-states.auto.table
 
 returns : tie.Need-returns
 returns c g F count-is weighed spells bounded =

@@ -32,7 +32,7 @@ enum_told c = search rules
 returns : tie.Need-returns-in_default invariant-loop decreases-loop
 returns c = search rules
 
-fits : (c : tie.In-Case invariant-loop decreases-loop) → c.in-Case.size ≤ length c.next_case-next.new.0
+fits : (c : tie.In-Case invariant-loop decreases-loop) → c.in-Case.size ≤ length c.next_case-next.new.buffer
 fits c = case_fits _ _ _ c.next_case-next.ensures c.in-Case.is
 
 slice-reshare-prefix-framed-case : tie.Need-slice_bounds-framed_case-end invariant-loop decreases-loop

@@ -26,7 +26,7 @@ returns-2 : tie.Need-returns-in-Good
 returns-2 c x s =
     let a = c.args in
     plans-book a.paths.now a.count a.start a.end a.walk.now _ x a.verdict a.weights.now c.plan_in.result
-    c.plan_in.new.1.1.1.1.1.1.0 c.in-Good.is c.plan_in.ensures s
+    c.plan_in.new.walk c.in-Good.is c.plan_in.ensures s
 
 pub plan_loaded_spec : {M : Type 1} → statement M
 plan_loaded_spec =

@@ -20,7 +20,7 @@ start_of c = c.before.before.before.before.before.before.before.before.before.be
 -- the tables that were built
 built : (c : tie.After-build-states)
     → let start = start_of c in
-    Built start.pre.0.paths start.args.vertices c.build-states.result c.build-states.new.1.1.1.0 c.build-states.new.1.1.1.1.0 c.build-states.new.1.1.1.1.1.0
+    Built start.requires.0.paths start.args.vertices c.build-states.result c.build-states.new.steps c.build-states.new.blocked c.build-states.new.latest
 built c = let g = (start_of c).requires.0 in c.build-states.ensures g.paths g.spells g.bounded
 
 -- the distances that were worked out
@@ -28,7 +28,7 @@ abbrev build-of : tie.After-distances → tie.After-build-states
 build-of c = c.before.before.before.before.before.before.before.before.before.before.before.before.before.before.before.before.before.before.before
 
 abbrev distances : tie.After-distances → List ℕ
-distances c = c.distances.new.1.1.1.1.1.1.1.1.1.1.1.1.1.0
+distances c = c.distances.new.table
 
 measured : (c : tie.After-distances)
     → let b = build-of c in
@@ -38,7 +38,7 @@ measured : (c : tie.After-distances)
 measured c g F count-is weighed spells bounded =
     let b = build-of c in
     let s = start_of b in
-    back_measured spells (b.build.ensures F spells bounded) s.args.table.now s.pre.1.1.entries (distances c) c.distances.auto.1.1.1.1.1.1.1.1.1.1.1.1.1.0 count-is weighed s.args.towards s.args.vertex c.distances.ensures
+    back_measured spells (b.build.ensures F spells bounded) s.args.table.now s.pre.1.1.entries (distances c) c.distances.auto.table count-is weighed s.args.towards s.args.vertex c.distances.ensures
 
 build-requires : tie.Need-build-states-requires
 build-requires c κs = search rules
@@ -59,47 +59,47 @@ distances-requires c κs =
     let spells = s.pre.0.spells in
     let (g, count-is, weighed) = s.pre.1.0 in
     let p = front-prepared spells (built c.before.before.before.before.before.before.before.before.before.before.before.before.before.before.before) s.args.table.now s.pre.1.1.entries count-is weighed in
-    (prepared-fits p, (p.built.few, front-edges spells (built c.before.before.before.before.before.before.before.before.before.before.before.before.before.before.before) s.args.table.now s.pre.1.1.entries s.pre.1.1.edges c.build-states.auto.1.1.1.1.1.1.0))
+    (prepared-fits p, (p.built.few, front-edges spells (built c.before.before.before.before.before.before.before.before.before.before.before.before.before.before.before) s.args.table.now s.pre.1.1.entries s.pre.1.1.edges c.build-states.auto.fail))
 
 same_length : tie.Need-shape_of-steps
-same_length c = c.build-states.auto.1.1.1.0
+same_length c = c.build-states.auto.steps
 
 same-length-2 : tie.Need-shape_of-blocked
-same-length-2 c = c.build-states.auto.1.1.1.1.0
+same-length-2 c = c.build-states.auto.blocked
 
 same-length-3 : tie.Need-shape_of-latest
-same-length-3 c = c.build-states.auto.1.1.1.1.1.0
+same-length-3 c = c.build-states.auto.latest
 
 same-length-4 : tie.Need-shape_of-tails
-same-length-4 c = c.distances.auto.1.1.1.1.1.1.1.0 ∙ c.build-states.auto.1.1.1.1.1.1.0
+same-length-4 c = c.distances.auto.tails ∙ c.build-states.auto.fail
 
 same-length-5 : tie.Need-shape_of-heads
-same-length-5 c = c.distances.auto.1.1.1.1.1.1.1.1.0
+same-length-5 c = c.distances.auto.heads
 
 same-length-6 : tie.Need-shape_of-costs
-same-length-6 c = c.distances.auto.1.1.1.1.1.1.1.1.1.0
+same-length-6 c = c.distances.auto.costs
 
 same-length-7 : tie.Need-shape_of-first
-same-length-7 c = c.distances.auto.1.1.1.1.1.1.1.1.1.1.0
+same-length-7 c = c.distances.auto.first
 
 same-length-8 : tie.Need-shape_of-next
-same-length-8 c = c.distances.auto.1.1.1.1.1.1.1.1.1.1.1.0
+same-length-8 c = c.distances.auto.next
 
 same-length-9 : tie.Need-shape_of-seen
-same-length-9 c = c.distances.auto.1.1.1.1.1.1.1.1.1.1.1.1.0
+same-length-9 c = c.distances.auto.seen
 
 same-length-10 : tie.Need-shape_of-table
 same-length-10 c =
     let b = build-of c.before.before.before.before.before.before.before.before.before.before.before.before.before.before in
     let s = start_of b in
-    back-length s.pre.0.spells (built b) s.args.table.now s.pre.1.1.entries (distances c.before.before.before.before.before.before.before.before.before.before.before.before.before.before) c.distances.auto.1.1.1.1.1.1.1.1.1.1.1.1.1.0
+    back-length s.pre.0.spells (built b) s.args.table.now s.pre.1.1.entries (distances c.before.before.before.before.before.before.before.before.before.before.before.before.before.before) c.distances.auto.table
 
 returns : tie.Need-returns
 returns c =
     let b = build-of c.before.before.before.before.before.before.before.before.before.before.before.before.before.before in
     let s = start_of b in
     let spells = s.pre.0.spells in
-    (omega (arith, built-counted spells (built b), s.pre.1.1.entries, back-length spells (built b) s.args.table.now s.pre.1.1.entries (distances c.before.before.before.before.before.before.before.before.before.before.before.before.before.before) c.distances.auto.1.1.1.1.1.1.1.1.1.1.1.1.1.0), measured c.before.before.before.before.before.before.before.before.before.before.before.before.before.before)
+    (omega (arith, built-counted spells (built b), s.pre.1.1.entries, back-length spells (built b) s.args.table.now s.pre.1.1.entries (distances c.before.before.before.before.before.before.before.before.before.before.before.before.before.before) c.distances.auto.table), measured c.before.before.before.before.before.before.before.before.before.before.before.before.before.before)
 
 pub measure_spec : {M : Type 1} → statement M
 measure_spec =

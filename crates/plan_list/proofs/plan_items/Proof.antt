@@ -31,7 +31,7 @@ returns c =
     let bytes = a.bytes.now in
     let lent : take c.items_in-n.result c.items-arcs.result ≡ first_items (items_in (length bytes)) bytes =
     c.items-arcs.ensures ∙ ap (λ k. first_items k bytes) c.items_in-n.ensures in
-    subst (λ x. PlanningOf x a.paths.now a.count a.start a.end a.walk.now c.plan_first.result c.plan_first.new.1.1.1.1.1.1.1.0)
+    subst (λ x. PlanningOf x a.paths.now a.count a.start a.end a.walk.now c.plan_first.result c.plan_first.new.walk)
     (ap (listing a.vertices) lent ∙ enough-items a.vertices bytes) c.plan_first.ensures
 
 pub plan_items_spec : {M : Type 1} → statement M

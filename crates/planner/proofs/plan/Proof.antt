@@ -30,7 +30,7 @@ returns c =
 -- the book that was read
 book : (c : tie.In-Read)
     → Loaded c.args.bytes.now c.in-Read.counts
-    c.load-read.new.1.0 c.load-read.new.1.1.0 c.load-read.new.1.1.1.0 c.load-read.new.1.1.1.1.0
+    c.load-read.new.weights c.load-read.new.flags c.load-read.new.owners c.load-read.new.entries
 book c =
     loaded c.args.bytes.now c.load-read.result c.in-Read.counts _ _ _ _
     c.load-read.ensures.0 c.load-read.ensures.1 c.in-Read.is
@@ -44,7 +44,7 @@ returns-2 : tie.Need-returns-in-Read
 returns-2 c =
     let b = book c.before.before.before.before.before in
     let a = c.args in
-    subst (λ x. PlanningOf x a.paths.now a.count a.start a.end a.walk.now c.plan_in.result c.plan_in.new.1.1.1.1.1.1.0)
+    subst (λ x. PlanningOf x a.paths.now a.count a.start a.end a.walk.now c.plan_in.result c.plan_in.new.walk)
     (sym b.is) (c.plan_in.ensures b.book b.tables.graph)
 
 pub plan_spec : {M : Type 1} → statement M

@@ -68,7 +68,7 @@ find-requires c κs =
 found : (c : tie.After-find)
     → let a = c.args in
     (b : Book) → IsGraph b a.vertices a.weights.now
-    → PlanningOf (accepted b) a.paths.now a.count a.start a.end a.walk.now (outcome_of c.find.result) c.find.new.1.1.1.1.1.1.0
+    → PlanningOf (accepted b) a.paths.now a.count a.start a.end a.walk.now (outcome_of c.find.result) c.find.new.walk
 found c b g =
     let a = c.args in
     plan-found b a.paths.now a.count a.start a.end a.walk.now (
@@ -84,7 +84,7 @@ found c b g =
         ),
       ),
     )
-    c.find.result c.find.new.1.1.1.1.1.1.0 (c.find.ensures b g)
+    c.find.result c.find.new.walk (c.find.ensures b g)
 
 enum-known-weight : tie.Need-enum_known-weight
 enum-known-weight c = search rules
@@ -98,7 +98,7 @@ same_length c = search rules
 returns-6 : tie.Need-returns-in-Walk
 returns-6 c b g =
     let a = c.args in
-    subst (λ r. PlanningOf (accepted b) a.paths.now a.count a.start a.end a.walk.now (outcome_of r) c.find.new.1.1.1.1.1.1.0)
+    subst (λ r. PlanningOf (accepted b) a.paths.now a.count a.start a.end a.walk.now (outcome_of r) c.find.new.walk)
     c.in-Walk.is (found c.before.before.before b g)
 
 same-length-2 : tie.Need-shape_of-walk-in-Nothing
@@ -107,7 +107,7 @@ same-length-2 c = search rules
 returns-7 : tie.Need-returns-in-Nothing
 returns-7 c b g =
     let a = c.args in
-    subst (λ r. PlanningOf (accepted b) a.paths.now a.count a.start a.end a.walk.now (outcome_of r) c.find.new.1.1.1.1.1.1.0)
+    subst (λ r. PlanningOf (accepted b) a.paths.now a.count a.start a.end a.walk.now (outcome_of r) c.find.new.walk)
     c.in-Nothing.is (found c.before.before.before b g)
 
 pub plan_in_spec : {M : Type 1} → statement M

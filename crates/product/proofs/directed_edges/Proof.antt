@@ -8,13 +8,13 @@ edges-requires : tie.Need-edges-requires
 edges-requires c κs = search rules
 
 same_length : tie.Need-shape_of-tails-then-towards
-same_length c = c.edges.auto.1.1.1.1.1.1.0
+same_length c = c.edges.auto.tails
 
 same-length-2 : tie.Need-shape_of-heads-then-towards
-same-length-2 c = c.edges.auto.1.1.1.1.1.1.1.0
+same-length-2 c = c.edges.auto.heads
 
 same-length-3 : tie.Need-shape_of-costs-then-towards
-same-length-3 c = c.edges.auto.1.1.1.1.1.1.1.1.0
+same-length-3 c = c.edges.auto.costs
 
 returns : tie.Need-returns-then-towards
 returns c =
@@ -25,13 +25,13 @@ edges-requires-2 : tie.Need-edges-requires-2
 edges-requires-2 c κs = search rules
 
 same-length-4 : tie.Need-shape_of-tails
-same-length-4 c = c.edges-2.auto.1.1.1.1.1.1.1.0
+same-length-4 c = c.edges-2.auto.heads
 
 same-length-5 : tie.Need-shape_of-heads
-same-length-5 c = c.edges-2.auto.1.1.1.1.1.1.0
+same-length-5 c = c.edges-2.auto.tails
 
 same-length-6 : tie.Need-shape_of-costs
-same-length-6 c = c.edges-2.auto.1.1.1.1.1.1.1.1.0
+same-length-6 c = c.edges-2.auto.costs
 
 returns-2 : tie.Need-returns
 returns-2 c =

@@ -21,7 +21,7 @@ enum-known-read-2 c = search rules
 -- the book that was read
 book : (c : tie.In-Read)
     → Loaded c.args.bytes.now c.in-Read.counts
-    c.load-read.new.1.0 c.load-read.new.1.1.0 c.load-read.new.1.1.1.0 c.load-read.new.1.1.1.1.0
+    c.load-read.new.weights c.load-read.new.flags c.load-read.new.owners c.load-read.new.entries
 book c =
     loaded c.args.bytes.now c.load-read.result c.in-Read.counts _ _ _ _
     c.load-read.ensures.0 c.load-read.ensures.1 c.in-Read.is
@@ -44,7 +44,7 @@ returns-2 : tie.Need-returns-in-Read
 returns-2 c =
     let b = book c.before.before.before.before.before in
     let a = c.args in
-    subst (λ x. Reaching x a.paths.now a.count a.start a.table.now c.reach_in.result c.reach_in.new.1.1.1.1.1.0)
+    subst (λ x. Reaching x a.paths.now a.count a.start a.table.now c.reach_in.result c.reach_in.new.table)
     (sym b.is) (c.reach_in.ensures b.book b.tables.graph)
 
 pub reach_spec : {M : Type 1} → statement M

@@ -26,7 +26,7 @@ decreases-loop bytes flags start end reports paths₀ walk₀ rec₀ at₀ paths
 -- the trials have begun
 started : (c : tie.In-Record invariant-loop decreases-loop)
     → let a = c.args in
-    Replayed a.bytes.now a.flags a.start a.end a.reports.now a.paths.now a.walk.now (answering c.in-Record.first c.begin-begun.new.1.1.1.1.0 c.begin-begun.new.1.1.1.1.1.0) 0
+    Replayed a.bytes.now a.flags a.start a.end a.reports.now a.paths.now a.walk.now (answering c.in-Record.first c.begin-begun.new.paths c.begin-begun.new.walk) 0
 started c =
     let a = c.args in
     let begin = c.begin-begun in
@@ -43,7 +43,7 @@ after-report : (c : tie.After-record_of-rec invariant-loop decreases-loop)
     → let a = c.args in
     let make = c.make-made in
     (P W : List ℕ)
-    → Replayed a.bytes.now a.flags a.start a.end a.reports.now P W (answering c.in-Record.first c.begin-begun.new.1.1.1.1.0 c.begin-begun.new.1.1.1.1.1.0) 0
+    → Replayed a.bytes.now a.flags a.start a.end a.reports.now P W (answering c.in-Record.first c.begin-begun.new.paths c.begin-begun.new.walk) 0
     → Replayed a.bytes.now a.flags a.start a.end a.reports.now P W (answering (record_in c.in-Report.reported) make.new.1.1.1.1.0 make.new.1.1.1.1.1.0) c.in-Report.next
     × (c.in-Report.next ≡ c.loop-at.at + size_of (drop c.loop-at.at a.reports.now))
 after-report c P W h =
@@ -111,7 +111,7 @@ loop-again c =
     let a = c.args in
     let inv = c.loop-at.invariant in (
       λ P W h.
-          subst (λ (r : Record). Replayed a.bytes.now a.flags a.start a.end a.reports.now P W (answering r c.make-made.new.1.1.1.1.0 c.make-made.new.1.1.1.1.1.0) c.in-Report.next)
+          subst (λ (r : Record). Replayed a.bytes.now a.flags a.start a.end a.reports.now P W (answering r c.make-made.new.paths c.make-made.new.walk) c.in-Report.next)
           (sym c.record_of-rec.ensures) (after-report c P W h).0,
       omega (arith, inv.1),
       omega (arith, inv.2),

@@ -11,7 +11,7 @@ use Rattle.text.proofs.found_text.Statement.{statement}
 use Rattle.text.proofs.found_text.Tie as tie
 
 -- the walk stands in the area
-standing : (c : tie.In-Walk-2) → c.in-Walk.hops < length c.args.walk.now
+standing : (c : tie.In-Walk) → c.in-Walk.hops < length c.args.walk.now
 standing c =
     subst (λ o. Standing o (length c.args.walk.now)) c.in-Walk.is c.requires.0
 
@@ -19,16 +19,16 @@ enum-known-found : tie.Need-enum_known-found
 enum-known-found c = search rules
 
 add-plan-text : tie.Need-overflow_add-hops
-add-plan-text c = omega (arith, standing c.before, c.well_formed)
+add-plan-text c = omega (arith, standing c, c.well_formed)
 
 slice-aggregate-plan-text : tie.Need-slice_bounds-plan_text-end
 slice-aggregate-plan-text c =
-    sym (length-take-le (c.in-Walk.hops + 1) c.args.walk.now (omega (arith, standing c.before.before)))
+    sym (length-take-le (c.in-Walk.hops + 1) c.args.walk.now (omega (arith, standing c)))
 
 plan-text-requires : tie.Need-plan_text-requires
 plan-text-requires c κs =
-    let size = length-take-le (c.in-Walk.hops + 1) c.args.walk.now (omega (arith, standing c.before.before.before)) in
-    (omega (arith, size), (omega (arith, size, standing c.before.before.before, c.requires.1.0), c.requires.1.1))
+    let size = length-take-le (c.in-Walk.hops + 1) c.args.walk.now (omega (arith, standing c.before)) in
+    (omega (arith, size), (omega (arith, size, standing c.before, c.requires.1.0), c.requires.1.1))
 
 enum_told : tie.Need-enum_told-1
 enum_told c = search rules

@@ -11,7 +11,7 @@ word-requires c κs = search rules
 
 decimal-requires : tie.Need-decimal-requires
 decimal-requires c κs =
-    omega (arith, c.requires, c.word-next.ensures.place, c.word-next.auto.1.0, decimal-word c.args.n c.ranges.n.fits)
+    omega (arith, c.requires, c.word-next.ensures.place, c.word-next.auto.out, decimal-word c.args.n c.ranges.n.fits)
 
 same_length : tie.Need-shape_of-out
 same_length c = search rules

@@ -21,7 +21,7 @@ decimal-requires c κs =
 same_length : tie.Need-shape_of-out
 same_length c =
     let a = c.args in
-    c.decimal.auto.1.0 ∙ length-set a.out.now a.at 32
+    c.decimal.auto.out ∙ length-set a.out.now a.at 32
 
 returns : tie.Need-returns
 returns c =

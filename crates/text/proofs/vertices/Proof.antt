@@ -37,7 +37,7 @@ part-followed-end c = search rules
 
 followed-requires : tie.Need-followed-requires
 followed-requires c κs =
-    omega (arith, c.decimal-next.ensures.place, c.decimal-next.auto.1.0, decimal-byte _ (byte c.before.before.before.before.before.before), c.requires.0, c.requires.1, part_length 1 c.args.walk.now)
+    omega (arith, c.decimal-next.ensures.place, c.decimal-next.auto.out, decimal-byte _ (byte c.before.before.before.before.before.before), c.requires.0, c.requires.1, part_length 1 c.args.walk.now)
 
 same_length : tie.Need-shape_of-out
 same_length c = search rules

@@ -44,7 +44,7 @@ short c =
 -- its path has been entered
 filled : (c : tie.After-copy invariant-loop decreases-loop)
     → let a = c.args in
-    c.copy.new.1.1.0 ≡ written (spelled (c.loop-k.k + 1) a.area.now)
+    c.copy.new.dst ≡ written (spelled (c.loop-k.k + 1) a.area.now)
 filled c =
     let a = c.args in
     c.copy.ensures
@@ -52,11 +52,11 @@ filled c =
     ∙ copied a.vertices a.area.now a.count c.if-count-gt-MOST_PATHS.false c.requires c.loop-k.clean c.loop-k.k c.loop-k.invariant
     c.loop-k-test.true (taken c.before.before.before.before)
 
-filled-length : (c : tie.After-copy invariant-loop decreases-loop) → length c.copy.new.1.1.0 ≡ area_size
+filled-length : (c : tie.After-copy invariant-loop decreases-loop) → length c.copy.new.dst ≡ area_size
 filled-length c =
     let a = c.args in
     full_length a.vertices a.area.now a.count c.if-count-gt-MOST_PATHS.false c.requires c.loop-k.clean c.loop-k.k c.loop-k.invariant
-    c.loop-k-test.true (taken c.before.before.before.before) c.copy.new.1.1.0 (filled c)
+    c.loop-k-test.true (taken c.before.before.before.before) c.copy.new.dst (filled c)
 
 returns : tie.Need-returns-then-count-gt-MOST_PATHS invariant-loop decreases-loop
 returns c = sym (too_many c.args.vertices c.args.area.now c.args.count c.if-count-gt-MOST_PATHS.true)
@@ -116,7 +116,7 @@ returns-3 : tie.Need-returns-then-found invariant-loop decreases-loop
 returns-3 c =
     let a = c.args in
     sym (repeated a.vertices a.area.now a.count c.if-count-gt-MOST_PATHS.false c.requires c.loop-k.clean c.loop-k.k c.loop-k.invariant
-    c.loop-k-test.true (taken c.before.before.before.before.before.before.before.before.before) c.copy.new.1.1.0 (filled c.before.before.before.before.before) (sym c.found.ensures ∙ c.if-found.true))
+    c.loop-k-test.true (taken c.before.before.before.before.before.before.before.before.before) c.copy.new.dst (filled c.before.before.before.before.before) (sym c.found.ensures ∙ c.if-found.true))
 
 add-k : tie.Need-overflow_add-k invariant-loop decreases-loop
 add-k c = search rules
@@ -128,7 +128,7 @@ loop-again : tie.Need-loop-k-preserved invariant-loop decreases-loop
 loop-again c =
     let a = c.args in
     valid-next a.vertices a.area.now a.count c.if-count-gt-MOST_PATHS.false c.requires c.loop-k.clean c.loop-k.k c.loop-k.invariant
-    c.loop-k-test.true (taken c.before.before.before.before.before.before.before.before.before) c.copy.new.1.1.0 (filled c.before.before.before.before.before) (sym c.found.ensures ∙ c.if-found.false)
+    c.loop-k-test.true (taken c.before.before.before.before.before.before.before.before.before) c.copy.new.dst (filled c.before.before.before.before.before) (sym c.found.ensures ∙ c.if-found.false)
 
 slice-aggregate-same-bytes : tie.Need-slice_bounds-same_bytes-end invariant-loop decreases-loop
 slice-aggregate-same-bytes c = sym (clean_is c.before.before)

@@ -18,18 +18,18 @@ enum-known-read-2 : tie.Need-enum_known-read-in-Read-1
 enum-known-read-2 c = search rules
 
 -- the book that was read
-book : (c : tie.In-Read-2)
+book : (c : tie.In-Read)
     → Loaded c.args.bytes.now c.in-Read.counts
-    c.load-read.new.1.0 c.load-read.new.1.1.0 c.load-read.new.1.1.1.0 c.load-read.new.1.1.1.1.0
+    c.load-read.new.weights c.load-read.new.flags c.load-read.new.owners c.load-read.new.entries
 book c =
     loaded c.args.bytes.now c.load-read.result c.in-Read.counts _ _ _ _
     c.load-read.ensures.0 c.load-read.ensures.1 c.in-Read.is
 
 slice-aggregate-begin-in : tie.Need-slice_bounds-begin_in-end
-slice-aggregate-begin-in c = sym (sets-entries (book c.before.before.before.before.before).tables.sets)
+slice-aggregate-begin-in c = sym (sets-entries (book c.before.before.before.before).tables.sets)
 
 begin-in-requires : tie.Need-begin_in-requires
-begin-in-requires c κs = let b = book c.before.before.before.before.before.before.before in (b.book, b.tables)
+begin-in-requires c κs = let b = book c.before.before.before.before.before.before in (b.book, b.tables)
 
 returns : tie.Need-returns-in-Refused
 returns c =
@@ -44,7 +44,7 @@ same-length-2 c = search rules
 
 returns-2 : tie.Need-returns-in-Read
 returns-2 c =
-    let b = book c.before.before.before.before.before.before.before.before.before.before.before.before in
+    let b = book c.before.before.before.before.before.before.before.before.before.before.before in
     let a = c.args in
     c.begin_in.ensures b.book b.tables ∙ sym (ap (λ x. beginning_of x a.flags a.start a.end a.paths.now a.walk.now) b.is)
 

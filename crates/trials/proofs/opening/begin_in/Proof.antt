@@ -67,7 +67,7 @@ gather-requires c κs = search rules
 gathered : (c : tie.After-gather-count)
     → let a = c.args in
     (b : Book) → IsSets b a.counts.paths a.needed.now a.owners.now a.entries.now
-    → (c.gather-count.result ≡ length (known a.flags b.sets)) × (c.gather-count.new.1.1.1.1.1.0 ≡ written (known a.flags b.sets))
+    → (c.gather-count.result ≡ length (known a.flags b.sets)) × (c.gather-count.new.area ≡ written (known a.flags b.sets))
 gathered c = c.gather-count.ensures
 
 slice-aggregate-find : tie.Need-slice_bounds-find-end
@@ -80,7 +80,7 @@ find-requires c κs =
     let (counted, filled) = gathered c.before.before.before b h.sets in (
       (b, h.graph),
       (
-        ap (λ n. valid n c.gather-count.new.1.1.1.1.1.0 c.gather-count.result) h.graph.vertices_are ∙ gathered_valid a.flags b h.graph.well counted filled,
+        ap (λ n. valid n c.gather-count.new.area c.gather-count.result) h.graph.vertices_are ∙ gathered_valid a.flags b h.graph.well counted filled,
         (c.if-vertices-start.false, c.if-walk-lt-LONGEST.false),
       ),
     )
@@ -100,7 +100,7 @@ replanned-requires c κs =
     let (b, h) = c.requires in
     let (counted, filled) = gathered c.before.before.before.before.before.before.before.before.before.before.before.before b h.sets in
     begun-short b a.flags a.start a.end a.paths.now a.walk.now h.graph.well (tested c.before.before.before.before.before.before.before.before.before.before.before.before.before.before b h.graph) counted filled
-    c.find-found.result c.find-found.new.1.1.1.1.1.1.0 (c.find-found.ensures b h.graph)
+    c.find-found.result c.find-found.new.walk (c.find-found.ensures b h.graph)
 
 same_length : tie.Need-shape_of-paths
 same_length c = search rules
@@ -113,8 +113,8 @@ returns-5 c b h =
     let a = c.args in
     let (counted, filled) = gathered c.before.before.before.before.before.before.before.before.before.before.before.before.before b h.sets in
     let f = c.find-found.result in
-    let new = c.find-found.new.1.1.1.1.1.1.0 in
-    ap (λ (z : Record). answering (Begun.Record z) c.copy.new.1.1.0 new) (c.replanned.ensures ∙ ap (λ (z : Record). replanned z f) c.new.ensures)
+    let new = c.find-found.new.walk in
+    ap (λ (z : Record). answering (Begun.Record z) c.copy.new.dst new) (c.replanned.ensures ∙ ap (λ (z : Record). replanned z f) c.new.ensures)
     ∙ ap (λ l. answering (Begun.Record (replanned (fresh a.start a.end c.gather-count.result) f)) l new) c.copy.ensures
     ∙ begun b a.flags a.start a.end a.paths.now a.walk.now h.graph.well (tested c.before.before.before.before.before.before.before.before.before.before.before.before.before.before.before b h.graph) counted filled f new (c.find-found.ensures b h.graph)
 

@@ -27,7 +27,7 @@ use Rattle.trials.proofs.report.replan.Tie as tie
 enters : (c : tie.After-enter)
     → let a = c.args in
     (b : Book) → IsGraph b a.vertices a.weights.now → refusal_by (report_tests a.rec a.paths.now a.walk.now (failed a.named.now) b) ≡ none
-    → c.enter.new.1.1.0 ≡ written (spelled a.rec.known a.paths.now ++ (a.named.now ∷ [])) ++ drop area_size a.paths.now
+    → c.enter.new.paths ≡ written (spelled a.rec.known a.paths.now ++ (a.named.now ∷ [])) ++ drop area_size a.paths.now
 enters c b of e =
     let a = c.args in
     c.enter.ensures ∙ entered b of.well a.rec a.paths.now a.walk.now a.named.now e
@@ -36,10 +36,10 @@ enters c b of e =
 plans : (c : tie.After-find-found)
     → let a = c.args in
     (b : Book) → IsGraph b a.vertices a.weights.now
-    → Searched (graph b) (spelled (a.rec.known + 1) c.enter.new.1.1.0) a.rec.start a.rec.end a.walk.now c.find-found.result c.find-found.new.1.1.1.1.1.1.0
+    → Searched (graph b) (spelled (a.rec.known + 1) c.enter.new.paths) a.rec.start a.rec.end a.walk.now c.find-found.result c.find-found.new.walk
 plans c b of =
     let a = c.args in
-    subst (λ (z : Record). Searched (graph b) (spelled z.known c.enter.new.1.1.0) z.start z.end a.walk.now c.find-found.result c.find-found.new.1.1.1.1.1.1.0)
+    subst (λ (z : Record). Searched (graph b) (spelled z.known c.enter.new.paths) z.start z.end a.walk.now c.find-found.result c.find-found.new.walk)
     c.failed-next.ensures (c.find-found.ensures b of)
 
 enter-requires : tie.Need-enter-requires
@@ -58,7 +58,7 @@ find-requires : tie.Need-find-found-requires
 find-requires c κs =
     let (b, of, e) = c.requires in
     let a = c.args in
-    let area = c.enter.new.1.1.0 in
+    let area = c.enter.new.paths in
     let next = c.failed-next.ensures in
     let valid-area : valid a.vertices area (a.rec.known + 1) ≡ true =
     ap (λ n. valid n area (a.rec.known + 1)) of.vertices_are ∙ still-valid b of.well a.rec a.paths.now a.walk.now a.named.now e _ (enters c.before.before.before.before b of e) in (
@@ -70,7 +70,7 @@ replanned-requires : tie.Need-replanned-requires
 replanned-requires c κs =
     let (b, of, e) = c.requires in
     let a = c.args in
-    walk-short b of.well a.rec a.paths.now a.walk.now a.named.now e _ (enters c.before.before.before.before.before.before.before b of e) c.find-found.result c.find-found.new.1.1.1.1.1.1.0 (plans c.before.before b of)
+    walk-short b of.well a.rec a.paths.now a.walk.now a.named.now e _ (enters c.before.before.before.before.before.before.before b of e) c.find-found.result c.find-found.new.walk (plans c.before.before b of)
 
 same_length : tie.Need-shape_of-paths
 same_length c = search rules
@@ -82,9 +82,9 @@ returns : tie.Need-returns
 returns c =
     let a = c.args in
     λ b of e.
-    ap (λ (z : Record). answering (Reported.Accepted z) c.enter.new.1.1.0 c.find-found.new.1.1.1.1.1.1.0)
+    ap (λ (z : Record). answering (Reported.Accepted z) c.enter.new.paths c.find-found.new.walk)
     (c.replanned.ensures ∙ ap (λ (z : Record). replanned z c.find-found.result) c.failed-next.ensures)
-    ∙ has_failed b of.well a.rec a.paths.now a.walk.now a.named.now e _ (enters c.before.before.before.before.before.before.before.before b of e) c.find-found.result c.find-found.new.1.1.1.1.1.1.0 (plans c.before.before.before b of)
+    ∙ has_failed b of.well a.rec a.paths.now a.walk.now a.named.now e _ (enters c.before.before.before.before.before.before.before.before b of e) c.find-found.result c.find-found.new.walk (plans c.before.before.before b of)
 
 pub replan_spec : {M : Type 1} → statement M
 replan_spec =

@@ -11,7 +11,7 @@ use Rattle.trials.proofs.report.report_passed.Tie as tie
 
 -- the book that was read
 book : (c : tie.In-Read)
-    → Loaded c.args.bytes.now c.in-Read.counts c.load-read.new.1.0 c.load-read.new.1.1.0 c.load-read.new.1.1.1.0 c.load-read.new.1.1.1.1.0
+    → Loaded c.args.bytes.now c.in-Read.counts c.load-read.new.weights c.load-read.new.flags c.load-read.new.owners c.load-read.new.entries
 book c =
     loaded c.args.bytes.now c.load-read.result c.in-Read.counts _ _ _ _
     c.load-read.ensures.0 c.load-read.ensures.1 c.in-Read.is
