@@ -21,7 +21,7 @@ pub fn planned(answer: Outcome, walk: &[u8]) {
     match answer {
         Outcome::Walk { weight, hops } => {
             text(b"LITRES ");
-            io::print_decimal(libc::STDOUT_FILENO, weight);
+            io::print_decimal(limits::STDOUT, weight);
             text(b" CHANGES");
             number(hops);
             text(b"\n");

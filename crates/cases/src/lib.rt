@@ -5,7 +5,7 @@ ghost use Rattle.cases.specs.Next.{FitsIn};
 mod print;
 mod same;
 
-use libc::STDIN_FILENO;
+use limits::STDIN;
 use lists::wide;
 pub use print::{number, refusal, text, write_walk};
 pub use same::same_answer;
@@ -22,14 +22,14 @@ pub fn next_case(buffer: &mut [u8]) -> Next
     ensures { FitsIn result buffer.new }
 {
     let mut head = [0u8; 4];
-    if io::read_full(STDIN_FILENO, &mut head) < 4 {
+    if io::read_full(STDIN, &mut head) < 4 {
         return Next::End;
     }
     let size = long(head[0], head[1], head[2], head[3]);
     if buffer.len() < size {
         return Next::End;
     }
-    let got = io::read_full(STDIN_FILENO, &mut buffer[..size]);
+    let got = io::read_full(STDIN, &mut buffer[..size]);
     if got < size {
         return Next::End;
     }

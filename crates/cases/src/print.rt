@@ -1,16 +1,16 @@
 // Printing.
 use book::Refusal;
-use libc::STDOUT_FILENO;
+use limits::STDOUT;
 use lists::wide;
 
 pub fn text(s: &[u8]) {
-    io::write_all(STDOUT_FILENO, s);
+    io::write_all(STDOUT, s);
 }
 
 // A blank and a number.
 pub fn number(n: usize) {
     text(b" ");
-    io::print_decimal(STDOUT_FILENO, n as u64);
+    io::print_decimal(STDOUT, n as u64);
 }
 
 // The line of a refusal.
@@ -33,7 +33,7 @@ pub fn write_walk(area: &[u8], n: usize) {
             if 0 < i {
                 text(b" ");
             }
-            io::print_decimal(STDOUT_FILENO, wide(area[i]) as u64);
+            io::print_decimal(STDOUT, wide(area[i]) as u64);
         }
         i += 1;
     }

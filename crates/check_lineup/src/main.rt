@@ -1,8 +1,8 @@
 // Checks the line-up on standard input against the runs of its book's binding sheets.
-use libc::STDIN_FILENO;
+use limits::STDIN;
 
 fn main() {
     let mut space = io::large_buffer();
-    let n = io::read_full(STDIN_FILENO, &mut space);
+    let n = io::read_full(STDIN, &mut space);
     kinds::check_case(&space[..n]);
 }

@@ -132,7 +132,7 @@ pub fn write_fields(rec: Record) {
     text(b" PASSED");
     number(rec.passed);
     text(b" LITRES ");
-    io::print_decimal(libc::STDOUT_FILENO, rec.litres);
+    io::print_decimal(limits::STDOUT, rec.litres);
     text(b" LENGTH");
     number(rec.length);
     text(b"\n");

@@ -24,3 +24,8 @@ pub const LONGEST: usize = 1600;
 
 // A pair of vertices that is no arc, in a table of weights.
 pub const NO_ARC: u32 = 0xffff_ffff;
+
+// The standard streams, as the library `io` numbers them.
+pub const STDIN: i32 = 0;
+
+pub const STDOUT: i32 = 1;

@@ -1,10 +1,10 @@
 // Plans the case on standard input: marks in two bytes (high byte first), start, end, and a book.
-use libc::{STDIN_FILENO, STDOUT_FILENO};
+use limits::{STDIN, STDOUT};
 
 fn main() {
     let mut input = io::large_buffer();
-    let n = io::read_full(STDIN_FILENO, &mut input);
+    let n = io::read_full(STDIN, &mut input);
     let mut out = [0u8; text::LONGEST_TEXT];
     let size = answer::answer(&input[..n], &mut out);
-    io::write_all(STDOUT_FILENO, &out[..size]);
+    io::write_all(STDOUT, &out[..size]);
 }

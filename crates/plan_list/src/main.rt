@@ -117,7 +117,7 @@ fn write_outcome(outcome: Outcome, walk: &[u8]) {
     match outcome {
         Outcome::Walk { weight, hops } => {
             text(b"LITRES ");
-            io::print_decimal(libc::STDOUT_FILENO, weight);
+            io::print_decimal(limits::STDOUT, weight);
             text(b" CHANGES");
             number(hops);
             text(b"\n");

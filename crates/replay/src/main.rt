@@ -1,8 +1,8 @@
 // Replays the trials on standard input.
-use libc::STDIN_FILENO;
+use limits::STDIN;
 
 fn main() {
     let mut space = io::large_buffer();
-    let n = io::read_full(STDIN_FILENO, &mut space);
+    let n = io::read_full(STDIN, &mut space);
     kinds::replay_case(&space[..n]);
 }
