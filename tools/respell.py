@@ -3,7 +3,7 @@
 
 usage: tools/respell.py [--text] PATH..
 
-respell.tsv beside this file has a row for each name: old, a tab, new. Below each PATH it turns .antt files, .rt files outside strings, and the
+respell.tsv beside this file has a row for each name: old, a tab, new. A middle dot behind a type becomes a dash. Below each PATH it turns .antt files, .rt files outside strings, and the
 old: and new: lines of .edit files; with --text, the code spans of .md files. A name with a dash turns in no comment, where it may be prose.
 """
 import os
@@ -11,7 +11,9 @@ import re
 import sys
 
 HERE = os.path.dirname(os.path.realpath(__file__))
-WORD = re.compile(r"[\w'→◌-]+")
+WORD = re.compile(r"[\w'→◌·-]+")
+# A type and a name that a middle dot joined; Iff is mathlib's, whose name is a path.
+DOTTED = re.compile(r"(?<![\w·])(?!Iff·)([A-Z]\w*)·(?=[A-Za-z])")
 SKIP = {"out", "target", ".git"}
 
 
@@ -22,7 +24,7 @@ def table():
 
 def words(text, names, prose=False):
     def one(m):
-        w = m[0]
+        w = DOTTED.sub(r"\1-", m[0])
         return w if prose and "-" in w else names.get(w, w)
 
     return WORD.sub(one, text)

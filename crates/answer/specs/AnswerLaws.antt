@@ -4,7 +4,7 @@ use Rattle.std.proofs.Common.{sym, ap, ap₂, subst, ◌∙◌, inl, inr, arith,
 use Rattle.std.proofs.Math.Option.{Option, none, some}
 use Rattle.walks.specs.Graph.{Graph}
 use Rattle.walks.specs.Walk.{hops-length}
-use Rattle.walks.specs.Best.{Best·unique, Best·not-None}
+use Rattle.walks.specs.Best.{Best-unique, Best-not-None}
 use Rattle.book.specs.declared.Refusal.{Refusal}
 use Rattle.book.specs.RefusalLaws.{Fails, Hold, first-fails, hold→none}
 use Rattle.book.specs.Book.{Book, graph}
@@ -19,9 +19,9 @@ use Rattle.answer.specs.Answer.{AnsweredUnder, AnsweredAs, answer_tests, Answere
 
 -- ---- one text
 under_unique : (g : Graph) (F : List (List ℕ)) (s t : ℕ) (x y : List ℕ) → AnsweredUnder g F s t x → AnsweredUnder g F s t y → x ≡ y
-under_unique g F s t x y (inl p) (inl q) = p.2 ∙ ap (walk_text g) (Best·unique p.1 q.1) ∙ sym q.2
-under_unique g F s t x y (inl p) (inr q) = absurd (Best·not-None p.1 q.0)
-under_unique g F s t x y (inr p) (inl q) = absurd (Best·not-None q.1 p.0)
+under_unique g F s t x y (inl p) (inl q) = p.2 ∙ ap (walk_text g) (Best-unique p.1 q.1) ∙ sym q.2
+under_unique g F s t x y (inl p) (inr q) = absurd (Best-not-None p.1 q.0)
+under_unique g F s t x y (inr p) (inl q) = absurd (Best-not-None q.1 p.0)
 under_unique g F s t x y (inr p) (inr q) = p.1 ∙ sym q.1
 
 as_unique : (o : Option Refusal) (b : Book) (flags s t : ℕ) (x y : List ℕ) → AnsweredAs o b flags s t x → AnsweredAs o b flags s t y → x ≡ y

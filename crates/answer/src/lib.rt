@@ -1,4 +1,6 @@
 // What the program `plan` prints, as a function from its input's bytes to its output's.
+#![tactic(auto)]
+
 ghost use Rattle.std.specs.Prelude.{◌≤◌, length};
 ghost use Rattle.book.specs.Book.{Book};
 ghost use Rattle.book.specs.Reading.{accepted, reading};

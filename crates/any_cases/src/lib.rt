@@ -2,6 +2,7 @@
 //
 // A case is a head of 72 bytes (the record, the flags, and the lengths), what is given of the two areas, a list, and the book. All
 // kinds have the same head, and each takes what its operation takes.
+#![tactic(auto)]
 
 ghost use Rattle.any_cases.specs.Making.{Made};
 

@@ -1,4 +1,6 @@
 // The automaton of a set of forbidden paths (Aho and Corasick), as tables.
+#![tactic(auto)]
+
 ghost use Rattle.std.specs.Prelude.{List, ◌≡◌, ℕ, ◌+◌, ◌*◌, ◌<◌, ◌≤◌, length};
 ghost use Rattle.limits.specs.Limits.{most_vertices, most_paths, entry_size};
 ghost use Rattle.states.specs.Count.{states_of};

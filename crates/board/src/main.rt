@@ -1,4 +1,6 @@
 // Prints the board of the case on standard input: marks in two bytes (high byte first), start, and a book.
+#![tactic(auto)]
+
 use limits::{STDIN, STDOUT};
 
 fn main() {

@@ -1,4 +1,6 @@
 // What the program `board` prints, as a function from its input's bytes to its output's.
+#![tactic(auto)]
+
 ghost use Rattle.std.specs.Prelude.{◌+◌, ◌*◌, ◌≤◌, length};
 ghost use Rattle.limits.specs.Limits.{most_vertices};
 ghost use Rattle.book.specs.Book.{Book};

@@ -3,9 +3,9 @@ ghost use Rattle.std.specs.Prelude.{◌≡◌, ◌+◌, ◌≤◌, ◌<◌, leng
 ghost use Rattle.std.proofs.Math.Seq.{slice};
 ghost use Rattle.limits.specs.Limits.{most_vertices, area_size, longest_path};
 ghost use Rattle.book.specs.Book.{Book, WellFormed, are_vertices, proper_arc, is_path};
-ghost use Rattle.book.specs.Book.{counts as Book·counts};
+ghost use Rattle.book.specs.Book.{counts as Book-counts};
 ghost use Rattle.book.specs.Reading.{read_as, u16_at, u32_at, end_at, length_at, kind_of, framed, taken, kept};
-ghost use Rattle.book.specs.Reading.{field as Reading·field, fits as Reading·fits, follows as Reading·follows};
+ghost use Rattle.book.specs.Reading.{field as Reading-field, fits as Reading-fits, follows as Reading-follows};
 ghost use Rattle.book.specs.Tables.{IsGraph, IsLoaded, Enters, weight_table, flag_table, owner_table, path_table};
 ghost use Rattle.book.specs.declared.Kind.TheVariants.{VertexCount, Arc, RuleSet, Path};
 
@@ -28,7 +28,7 @@ fn kind_of(tag: u8) -> Kind
 }
 
 fn follows(vertices: usize, sets: usize, kind: Kind) -> bool
-    ensures { result ≡ Reading·follows vertices sets kind }
+    ensures { result ≡ Reading-follows vertices sets kind }
 {
     match kind {
         Kind::VertexCount => vertices == 0,
@@ -40,7 +40,7 @@ fn follows(vertices: usize, sets: usize, kind: Kind) -> bool
 }
 
 fn fits(kind: Kind, n: usize) -> bool
-    ensures { result ≡ Reading·fits kind n }
+    ensures { result ≡ Reading-fits kind n }
 {
     match kind {
         Kind::VertexCount => n == 1,
@@ -99,7 +99,7 @@ fn frame(bytes: &[u8], at: usize, counts: Counts) -> Answer
 
 fn vertex_count(bytes: &[u8], at: usize, counts: Counts) -> Answer
     requires { at + 4 ≤ length bytes.now }
-    ensures { (b : Book) → counts ≡ Book·counts b → result ≡ read_as (taken VertexCount bytes.now b at) }
+    ensures { (b : Book) → counts ≡ Book-counts b → result ≡ read_as (taken VertexCount bytes.now b at) }
 {
     let n = wide(bytes[at + 3]);
     if n < 1 {
@@ -158,7 +158,7 @@ fn arc(bytes: &[u8], at: usize, counts: Counts, weights: &mut [u32; PAIRS]) -> A
     requires at_in_bounds { at + 9 ≤ length bytes.now }
     requires vertices_le_most_vertices { counts.vertices ≤ most_vertices }
     requires arcs_le_at { counts.arcs ≤ at }
-    ensures { (b : Book) → counts ≡ Book·counts b → IsGraph b counts.vertices weights.old → (result ≡ read_as (taken Arc bytes.now b at)) × (weights.new ≡ weight_table (kept b (taken Arc bytes.now b at)).arcs) }
+    ensures { (b : Book) → counts ≡ Book-counts b → IsGraph b counts.vertices weights.old → (result ≡ read_as (taken Arc bytes.now b at)) × (weights.new ≡ weight_table (kept b (taken Arc bytes.now b at)).arcs) }
 {
     let tail = wide(bytes[at + 3]);
     let head = wide(bytes[at + 4]);
@@ -176,7 +176,7 @@ fn arc(bytes: &[u8], at: usize, counts: Counts, weights: &mut [u32; PAIRS]) -> A
 
 fn rule_set(bytes: &[u8], at: usize, counts: Counts, flags: &mut [u16; MOST_SETS]) -> Answer
     requires { at + 5 ≤ length bytes.now }
-    ensures { (b : Book) → counts ≡ Book·counts b → flags.old ≡ flag_table b.sets → (result ≡ read_as (taken RuleSet bytes.now b at)) × (flags.new ≡ flag_table (kept b (taken RuleSet bytes.now b at)).sets) }
+    ensures { (b : Book) → counts ≡ Book-counts b → flags.old ≡ flag_table b.sets → (result ≡ read_as (taken RuleSet bytes.now b at)) × (flags.new ≡ flag_table (kept b (taken RuleSet bytes.now b at)).sets) }
 {
     let k = counts.sets;
     if MOST_SETS <= k {
@@ -232,7 +232,7 @@ fn path(
     requires at_bound { length_at bytes.now at ≤ longest_path }
     requires le_sets { 1 ≤ counts.sets }
     requires entries_len { length entries.old ≡ area_size }
-    ensures { (b : Book) → counts ≡ Book·counts b → WellFormed b → owners.old ≡ owner_table b.sets → entries.old ≡ path_table b.sets → (result ≡ read_as (taken Path bytes.now b at)) × (owners.new ≡ owner_table (kept b (taken Path bytes.now b at)).sets) × (entries.new ≡ path_table (kept b (taken Path bytes.now b at)).sets) }
+    ensures { (b : Book) → counts ≡ Book-counts b → WellFormed b → owners.old ≡ owner_table b.sets → entries.old ≡ path_table b.sets → (result ≡ read_as (taken Path bytes.now b at)) × (owners.new ≡ owner_table (kept b (taken Path bytes.now b at)).sets) × (entries.new ≡ path_table (kept b (taken Path bytes.now b at)).sets) }
 {
     let end = field_end(bytes, at);
     let from = at + 3;
@@ -268,7 +268,7 @@ pub fn field(
     requires vertices_le_most_vertices { counts.vertices ≤ most_vertices }
     requires arcs_le_at { counts.arcs ≤ at }
     requires entries_len { length entries.old ≡ area_size }
-    ensures { (b : Book) → counts ≡ Book·counts b → IsLoaded b counts weights.old flags.old owners.old entries.old → (result ≡ read_as (Reading·field bytes.now b at)) × IsLoaded (kept b (Reading·field bytes.now b at)) (Book·counts (kept b (Reading·field bytes.now b at))) weights.new flags.new owners.new entries.new }
+    ensures { (b : Book) → counts ≡ Book-counts b → IsLoaded b counts weights.old flags.old owners.old entries.old → (result ≡ read_as (Reading-field bytes.now b at)) × IsLoaded (kept b (Reading-field bytes.now b at)) (Book-counts (kept b (Reading-field bytes.now b at))) weights.new flags.new owners.new entries.new }
 {
     let framed = frame(bytes, at, counts);
     let Answer::Read(_) = framed else {

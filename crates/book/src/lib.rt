@@ -1,8 +1,10 @@
 // The book: its reader, and what a book that is read means to the layers above.
+#![tactic(auto)]
+
 ghost use Rattle.std.specs.Prelude.{◌≡◌, true, false};
 ghost use Rattle.book.specs.Refusal.{number_of};
 ghost use Rattle.book.specs.Book.{Book};
-ghost use Rattle.book.specs.Book.{counts as Book·counts};
+ghost use Rattle.book.specs.Book.{counts as Book-counts};
 ghost use Rattle.book.specs.Reading.{reading, read_as, accepted};
 ghost use Rattle.book.specs.Tables.{Blank, IsLoaded};
 
@@ -131,7 +133,7 @@ pub fn load(
 ) -> Answer
     requires { Blank weights.old flags.old owners.old entries.old }
     ensures value { result ≡ read_as (reading bytes.now) }
-    ensures loaded { (b : Book) → reading bytes.now ≡ accepted b → IsLoaded b (Book·counts b) weights.new flags.new owners.new entries.new }
+    ensures loaded { (b : Book) → reading bytes.now ≡ accepted b → IsLoaded b (Book-counts b) weights.new flags.new owners.new entries.new }
 {
     if bytes.len() == 0 {
         return Answer::Refused(Refusal::Truncated(0));

@@ -1,4 +1,6 @@
 // What the test programs share: the frames of a stream, printing, and comparisons.
+#![tactic(auto)]
+
 ghost use Rattle.std.specs.Prelude.{◌+◌, ◌*◌, ◌≡◌};
 ghost use Rattle.cases.specs.Next.{FitsIn};
 

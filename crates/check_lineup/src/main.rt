@@ -1,4 +1,6 @@
 // Checks the line-up on standard input against the runs of its book's binding sheets.
+#![tactic(auto)]
+
 use limits::STDIN;
 
 fn main() {

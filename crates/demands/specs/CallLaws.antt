@@ -6,7 +6,7 @@ use mathlib.Core.List.Memᴰ
 use mathlib.Core.List.{List, [], ◌∷◌, ◌++◌, Memᴰ}
 use Rattle.std.proofs.Math.Option.{Option, none, some}
 use Rattle.lists.specs.Distinct.{distinct-length}
-use Rattle.walks.specs.Avoid.{Avoids·mono}
+use Rattle.walks.specs.Avoid.{Avoids-mono}
 use Rattle.walks.specs.Best.{Feasible}
 use Rattle.states.specs.Chosen.{chosen}
 use Rattle.book.specs.declared.Refusal.{Refusal}
@@ -89,7 +89,7 @@ module _ {b : Book} {flags : ℕ} {R : List (List ℕ)} {start end : ℕ} {w : L
       record {
         avoids_sheets = λ r o. f.clear r (Memᴰ.append_left R (sheet→known b flags o));
         avoids_lab =
-            record { walk = f.walk; starts = f.starts; ends = f.ends; clear = Avoids·mono (λ r m. Memᴰ.append_right (known flags b.sets) m) f.clear };
+            record { walk = f.walk; starts = f.starts; ends = f.ends; clear = Avoids-mono (λ r m. Memᴰ.append_right (known flags b.sets) m) f.clear };
       }
 
 -- ---- answers

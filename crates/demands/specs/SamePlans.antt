@@ -4,7 +4,7 @@ use Rattle.std.proofs.Common.{sym, ap, ap₂, subst, ◌∙◌, le-leb}
 use Rattle.std.proofs.Math.Option.{Option, none, some}
 use Rattle.limits.specs.Limits.{most_vertices, area_size}
 use Rattle.walks.specs.Graph.{Graph, from_arcs}
-use Rattle.walks.specs.Best.{Best·unique, Best·not-None, NoStricter, Best·same}
+use Rattle.walks.specs.Best.{Best-unique, Best-not-None, NoStricter, Best-same}
 use Rattle.states.specs.Chosen.{Decided, chosen, chosen_is}
 use Rattle.book.specs.declared.Refusal.{Refusal}
 use Rattle.book.specs.Refusal.{test, refusal_by}
@@ -33,9 +33,9 @@ use Rattle.demands.specs.Demands.{SamePlans}
 module _ (g : Graph) (F G : List (List ℕ)) (to : NoStricter g F G) (from : NoStricter g G F) (s t : ℕ) where
   one_choice : (p q : Option (List ℕ)) → Decided g F s t p → Decided g G s t q → p ≡ q
   one_choice none none n m = refl
-  one_choice none (some w) n (best, _) = absurd (Best·not-None (Best·same from to best) n)
-  one_choice (some v) none (best, _) m = absurd (Best·not-None (Best·same to from best) m)
-  one_choice (some v) (some w) (best, _) (best', _) = ap some (Best·unique (Best·same to from best) best')
+  one_choice none (some w) n (best, _) = absurd (Best-not-None (Best-same from to best) n)
+  one_choice (some v) none (best, _) m = absurd (Best-not-None (Best-same to from best) m)
+  one_choice (some v) (some w) (best, _) (best', _) = ap some (Best-unique (Best-same to from best) best')
 
 decides : (g : Graph) (F : List (List ℕ)) → g.count ≤ most_vertices → ForbiddenSet g.count F → (s t : ℕ) → Decided g F s t (chosen g F s t)
 decides g F few set s t = chosen_is g F s t few set.few (λ r m. (sizes g.count F (set-paths g.count F set) r m).1)

@@ -8,7 +8,7 @@ use Rattle.lists.specs.Test.{T_and}
 use Rattle.walks.specs.Graph.{Graph, Arc}
 use Rattle.walks.specs.Walk.{Walk}
 use Rattle.walks.specs.Avoid.{Occurs}
-use Rattle.walks.specs.Best.{Best, None, Best·same, None·same}
+use Rattle.walks.specs.Best.{Best, None, Best-same, None-same}
 use Rattle.walks.specs.Stutter.{Stutters, Loopless, stutter_never_occurs, ButStutters, but_stutters}
 use Rattle.states.specs.Chosen.{chosen}
 use Rattle.book.specs.declared.Refusal.{Refusal}
@@ -128,10 +128,10 @@ module _ (s : List ℕ) (b : Book) (read : reading s ≡ accepted b) where
 
   module _ (F G : List (List ℕ)) (to : ButStutters F G) (from : ButStutters G F) (start end : ℕ) where
     pub best : (w : List ℕ) → Best (graph b) F start end w ↔ Best (graph b) G start end w
-    best w = (Best·same (but_stutters loopless to) (but_stutters loopless from), Best·same (but_stutters loopless from) (but_stutters loopless to))
+    best w = (Best-same (but_stutters loopless to) (but_stutters loopless from), Best-same (but_stutters loopless from) (but_stutters loopless to))
 
     pub none : None (graph b) F start end ↔ None (graph b) G start end
-    none = (None·same (but_stutters loopless from), None·same (but_stutters loopless to))
+    none = (None-same (but_stutters loopless from), None-same (but_stutters loopless to))
 
   pub never-named : (q : Record) (paths walk : List ℕ) → Tried b q paths walk → (r : List ℕ) → Stutters r
       → (x : Refusal) × ((number_of x).number ≡ 12) × (reporting s q paths walk (failed r) ≡ answering (Reported.Refused x q) paths walk)

@@ -5,6 +5,8 @@
 // out in passes: after k of them an entry is the least cost of a path with at most k edges to a target. `settle` ends
 // with the same table as a pass for each state, and relaxes only the edges into states whose entry fell.
 // Swap tails and heads for the distances from a state.
+#![tactic(auto)]
+
 ghost use Rattle.std.specs.Prelude.{◌≡◌, not, ℕ, ◌^◌, ◌<◌, length};
 ghost use Rattle.distances.specs.Edge.{edges};
 ghost use Rattle.distances.specs.Table.{at, inf, pass, passes, settled};

@@ -14,7 +14,7 @@ use Rattle.walks.specs.Graph.{Graph, arc_weight}
 use Rattle.walks.specs.Walk.{weight_of, hops, hops-length}
 use Rattle.walks.specs.Avoid.{Long}
 use Rattle.walks.specs.Weights.{Weights}
-use Rattle.walks.specs.Best.{Best, None, Best·unique, Best·not-None, Best·stay}
+use Rattle.walks.specs.Best.{Best, None, Best-unique, Best-not-None, Best-stay}
 use Rattle.states.specs.Short.{best-bound, best-weight}
 use Rattle.states.specs.Chosen.{chosen, Decided, chosen_is}
 use Rattle.ends.specs.Ends.{no_end, entry_of, ends}
@@ -57,15 +57,15 @@ module _ (g : Graph) (F : List (List ℕ)) (s t : ℕ) (vertices : g.count ≤ m
   entry-best {w} best = of (chosen g F s t) (chosen_is g F s t vertices paths size)
     where
       of : (o : Option (List ℕ)) → Decided g F s t o → entry_of g o ≡ weight_of g w ∷ hops w ∷ []
-      of none h = absurd (Best·not-None best h)
-      of (some v) h = ap (λ x. weight_of g x ∷ hops x ∷ []) (Best·unique h.0 best)
+      of none h = absurd (Best-not-None best h)
+      of (some v) h = ap (λ x. weight_of g x ∷ hops x ∷ []) (Best-unique h.0 best)
 
   pub entry-none : None g F s t → entry_of g (chosen g F s t) ≡ no_end ∷ no_end ∷ []
   entry-none no_Walk = of (chosen g F s t) (chosen_is g F s t vertices paths size)
     where
       of : (o : Option (List ℕ)) → Decided g F s t o → entry_of g o ≡ no_end ∷ no_end ∷ []
       of none h = refl
-      of (some v) h = absurd (Best·not-None h.0 no_Walk)
+      of (some v) h = absurd (Best-not-None h.0 no_Walk)
 
   -- These are far below the mark of none, so that the mark says that there is no walk.
   module _ {weights : List ℕ} (table : Weights g weights) where
@@ -85,4 +85,4 @@ module _ (g : Graph) (F : List (List ℕ)) (s t : ℕ) (vertices : g.count ≤ m
 -- The start has 0 and 0.
 pub entry-start : (g : Graph) (F : List (List ℕ)) (s : ℕ) → g.count ≤ most_vertices → length F ≤ most_paths → ((r : List ℕ) → Memᴰ r F → length r ≤ longest_path)
     → Long F → s < g.count → entry_of g (chosen g F s s) ≡ 0 ∷ 0 ∷ []
-entry-start g F s vertices paths size long below = entry-best g F s s vertices paths size (Best·stay long below)
+entry-start g F s vertices paths size long below = entry-best g F s s vertices paths size (Best-stay long below)

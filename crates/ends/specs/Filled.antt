@@ -8,7 +8,7 @@ use Prim.Native.Nat.{ℕ, zero, suc, ◌%◌, ◌<◌, ◌≤◌}
 use Rattle.std.proofs.Math.Decide.{dec_lt}
 use Rattle.limits.specs.Limits.{most_paths, longest_path}
 use Rattle.walks.specs.Graph.{Graph}
-use Rattle.walks.specs.Avoid.{Avoids, Avoids·single}
+use Rattle.walks.specs.Avoid.{Avoids, Avoids-single}
 use Rattle.walks.specs.Weights.{Weights}
 use Rattle.distances.specs.Edge.{Edge, Within}
 use Rattle.distances.specs.Table.{at, inf, passes}
@@ -78,4 +78,4 @@ module _ {g : Graph} {F : List (List ℕ)} {n s : ℕ} {weights steps blockeds l
   measured_ends bounded below =
       let same = r.prepared.count-is in
       let built : Built F g.count (length d) steps blockeds latests = rw same r.prepared.built in
-      entries_are built r.prepared.table s (rw same below) (Avoids·single bounded.long s) bounded.few bounded.short d (rw same r.final) n
+      entries_are built r.prepared.table s (rw same below) (Avoids-single bounded.long s) bounded.few bounded.short d (rw same r.final) n

@@ -1,4 +1,6 @@
 // The table of ends, read off the distances of the automaton's states from the start.
+#![tactic(auto)]
+
 ghost use Rattle.std.specs.Prelude.{◌≡◌, ◌++◌, ℕ, ◌*◌, ◌<◌, ◌≤◌, ltb, length, drop};
 ghost use Rattle.limits.specs.Limits.{most_vertices};
 ghost use Rattle.distances.specs.Table.{at, inf};

@@ -7,7 +7,7 @@ use Rattle.std.proofs.Math.Option.{none, some}
 use Rattle.std.proofs.lemmas.List.{length-replicate}
 use Rattle.walks.specs.Walk.{weight_of, hops}
 use Rattle.walks.specs.Avoid.{avoids→Avoids}
-use Rattle.walks.specs.Best.{Feasible, Best·mono}
+use Rattle.walks.specs.Best.{Feasible, Best-mono}
 use Rattle.walks.specs.Feasible.{is_feasible, is_feasible→Feasible}
 use Rattle.book.specs.declared.Answer.TheVariants.{Read}
 use Rattle.book.specs.declared.Refusal.TheVariants.{NotStanding}
@@ -79,7 +79,7 @@ plans-under F set w n k p beyond walk long =
 -- the plan avoids 1 1 too
 best-11 : Plan graph_a (forbidden_a ++ ((1 ∷ 1 ∷ []) ∷ [])) 0 3 best_a 450 5
 best-11 =
-    record { best = Best·mono (λ r m. Memᴰ.append_left _ m) marks_3.best (avoids→Avoids (forbidden_a ++ ((1 ∷ 1 ∷ []) ∷ [])) best_a tt); weighs = refl; takes = refl }
+    record { best = Best-mono (λ r m. Memᴰ.append_left _ m) marks_3.best (avoids→Avoids (forbidden_a ++ ((1 ∷ 1 ∷ []) ∷ [])) best_a tt); weighs = refl; takes = refl }
 
 pub sums : Sums
 unfolding is_forbidden_set once is_path are_vertices reports_in is_feasible all_paths covers applied digits followed

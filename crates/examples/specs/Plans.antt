@@ -3,7 +3,7 @@ use Rattle.std.specs.Prelude.{ℕ, ◌≤◌, ◌≡◌, refl, true, List, [], �
 use Rattle.std.proofs.Common.{sym, ap, subst, ◌∙◌, le-leb}
 use mathlib.Core.List.Memᴰ
 use Rattle.std.proofs.Math.Option.{none}
-use Rattle.walks.specs.Best.{None, None·mono}
+use Rattle.walks.specs.Best.{None, None-mono}
 use Rattle.book.specs.Book.{Book, IsPath, WellFormed, graph}
 use Rattle.book.specs.BookLaws.{reading-is-book, all-member}
 use Rattle.examples.specs.Books.{bytes_a, book_a, book-A, bytes_ways, book_ways, book-ways, bytes_shortcut, book_shortcut, book-shortcut}
@@ -87,7 +87,7 @@ sums =
       marks_1 = walk-given bytes_a book_a book-A 1 0 3 refl refl _ 350 2 marks_1;
       marks_2 = walk-given bytes_a book_a book-A 2 0 3 refl refl _ 300 3 marks_2;
       marks_3 = walk-given bytes_a book_a book-A 3 0 3 refl refl _ 450 5 marks_3;
-      back = λ flags. none-given bytes_a book_a book-A flags 3 0 refl refl (None·mono (λ r m. absurd (Memᴰ.not-nil m)) back);
+      back = λ flags. none-given bytes_a book_a book-A flags 3 0 refl refl (None-mono (λ r m. absurd (Memᴰ.not-nil m)) back);
       stay = λ flags. walk-given bytes_a book_a book-A flags 3 3 refl refl _ 0 0 (stay (known flags book_a.sets) (λ r m. (all-member (IsPath 4) _ (known-paths flags book_a well-A) r m).two));
       lower_vertex = λ flags. walk-given bytes_ways book_ways book-ways flags 0 3 refl refl _ 200 2 lower_vertex;
       fewer-hops = λ flags. walk-given bytes_shortcut book_shortcut book-shortcut flags 0 3 refl refl _ 200 1 fewer-hops;

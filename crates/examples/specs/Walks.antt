@@ -5,7 +5,7 @@ use Rattle.std.proofs.Common.{lit<}
 use Rattle.walks.specs.Graph.{Graph, from_arcs}
 use Rattle.walks.specs.Walk.{weight_of, hops}
 use Rattle.walks.specs.Avoid.{Long}
-use Rattle.walks.specs.Best.{Best, None, Best·stay}
+use Rattle.walks.specs.Best.{Best, None, Best-stay}
 use Rattle.examples.specs.GraphA.{arc, book_a, forbidden_a, best_a}
 use Rattle.states.specs.Automaton.{state, go, blocked}
 use Rattle.examples.specs.Certificate.{Entry, certified-best, certified-none}
@@ -59,7 +59,7 @@ unfolding state go blocked
 back = certified-none book_a [] 0 (at (0 ∷ []) 0 0 ∷ off (1 ∷ []) ∷ off (2 ∷ []) ∷ off (3 ∷ []) ∷ []) 3 tt refl
 
 pub stay : (F : List (List ℕ)) → Long F → Plan book_a F 3 3 (3 ∷ []) 0 0
-stay F long = record { best = Best·stay long (lit< tt); weighs = refl; takes = refl }
+stay F long = record { best = Best-stay long (lit< tt); weighs = refl; takes = refl }
 
 -- Two ways of one weight and as many hops: the first differing vertex is the lower. With an arc of that weight: fewer hops.
 abbrev pub ways : Graph

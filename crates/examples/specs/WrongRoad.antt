@@ -8,7 +8,7 @@ use Rattle.std.proofs.Math.Seq.{get_or-append_seam}
 use Rattle.walks.specs.Graph.{is_some, is_arc}
 use Rattle.walks.specs.Walk.{weight_of, hops, hops-length}
 use Rattle.walks.specs.Avoid.{avoids, Avoids→avoids}
-use Rattle.walks.specs.Best.{Feasible, Best, Best·unique}
+use Rattle.walks.specs.Best.{Feasible, Best, Best-unique}
 use Rattle.examples.specs.GraphA.{book_a, forbidden_a}
 use Rattle.examples.specs.Walks.{best-to-1, best-to-2}
 
@@ -40,10 +40,10 @@ one_way_per_vertex u p best whole = ⊎_elim by-1 by_2 (into-3 u (last-arc u p b
   where
     by-1 : u ≡ 1 → 500 ≤ weight_of book_a (p ++ (3 ∷ []))
     by-1 e =
-        let is : p ≡ 0 ∷ 1 ∷ [] = Best·unique (subst (λ v. Best book_a forbidden_a 0 v p) e best) best-to-1.best in
+        let is : p ≡ 0 ∷ 1 ∷ [] = Best-unique (subst (λ v. Best book_a forbidden_a 0 v p) e best) best-to-1.best in
         subst (λ q. 500 ≤ weight_of book_a (q ++ (3 ∷ []))) (sym is) (lit≤ tt)
 
     by_2 : u ≡ 2 → 500 ≤ weight_of book_a (p ++ (3 ∷ []))
     by_2 e =
-        let is : p ≡ 0 ∷ 1 ∷ 2 ∷ [] = Best·unique (subst (λ v. Best book_a forbidden_a 0 v p) e best) best-to-2.best in
+        let is : p ≡ 0 ∷ 1 ∷ 2 ∷ [] = Best-unique (subst (λ v. Best book_a forbidden_a 0 v p) e best) best-to-2.best in
         absurd (subst (λ q. T (avoids forbidden_a (q ++ (3 ∷ [])))) is (Avoids→avoids forbidden_a (p ++ (3 ∷ [])) whole.clear))

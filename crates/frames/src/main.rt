@@ -1,4 +1,6 @@
 // Answers each case of a stream of frames.
+#![tactic(auto)]
+
 use any_cases::{Call, any_case};
 use cases::{Next, text};
 

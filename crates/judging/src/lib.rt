@@ -1,9 +1,11 @@
 // What a report is refused for in a book that has been read.
+#![tactic(auto)]
+
 ghost use Rattle.std.specs.Prelude.{◌≡◌, true, ◌&&◌, ◌≤◌, eqb, length, drop};
 ghost use Rattle.walks.specs.Walk.{is_walk, weight_of};
 ghost use Rattle.walks.specs.Avoid.{is_prefix};
 ghost use Rattle.walks.specs.Feasible.{is_feasible};
-ghost use Rattle.walks.specs.Avoid.{occurs as Avoid·occurs};
+ghost use Rattle.walks.specs.Avoid.{occurs as Avoid-occurs};
 ghost use Rattle.book.specs.Book.{Book, graph, is_path};
 ghost use Rattle.book.specs.Refusal.{refusal_by};
 ghost use Rattle.book.specs.Tables.{IsGraph};
@@ -161,7 +163,7 @@ fn begins(walk: &[u8], at: usize, path: &[u8]) -> bool
 
 // Whether a path stands in a walk.
 fn occurs(path: &[u8], walk: &[u8]) -> bool
-    ensures { result ≡ Avoid·occurs path.now walk.now }
+    ensures { result ≡ Avoid-occurs path.now walk.now }
 {
     let mut at = 0;
     while at < walk.len() {
@@ -175,7 +177,7 @@ fn occurs(path: &[u8], walk: &[u8]) -> bool
 
 // 12: whether a named path is one by the book's rules, and stands in the walk.
 pub fn is_named(named: &[u8], vertices: usize, walk: &[u8]) -> bool
-    ensures { result ≡ is_path vertices named.now && Avoid·occurs named.now walk.now }
+    ensures { result ≡ is_path vertices named.now && Avoid-occurs named.now walk.now }
 {
     if !book::is_path(named, 0, named.len(), vertices) {
         return false;

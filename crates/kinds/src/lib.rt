@@ -1,4 +1,6 @@
 // The kinds of cases that the test programs take: each prints its answer.
+#![tactic(auto)]
+
 mod checking;
 mod planning;
 mod reading;

@@ -1,4 +1,5 @@
 // The limits that the rules set, and the sizes that follow from them. specs/Limits.antt names the same numbers for the definitions.
+#![tactic(auto)]
 
 // A book: its vertices, the ordered pairs of these, the weight of an arc, its rule sets and their forbidden paths.
 pub const MOST_VERTICES: usize = 64;

@@ -1,11 +1,13 @@
 // Planning from a list of arcs.
+#![tactic(auto)]
+
 ghost use Rattle.std.specs.Prelude.{◌≡◌, replicate};
 ghost use Rattle.book.specs.Book.{Book};
 ghost use Rattle.book.specs.Reading.{Reading, verdict_of, with_arc};
 ghost use Rattle.book.specs.Tables.{IsGraph};
 ghost use Rattle.limits.specs.Limits.{no_arc, pairs};
 ghost use Rattle.planner.specs.Planning.{PlanningOf};
-ghost use Rattle.listed.specs.Listing.{arc_of, counted as Listing·counted, listing};
+ghost use Rattle.listed.specs.Listing.{arc_of, counted as Listing-counted, listing};
 ghost use Rattle.listed.specs.Standing.{Stands, is_going_on};
 
 use book::{Refusal, Verdict};
@@ -23,7 +25,7 @@ pub struct Arc {
 
 // The count of vertices, before any item.
 fn counted(vertices: usize) -> Verdict
-    ensures { result ≡ verdict_of (Listing·counted vertices) }
+    ensures { result ≡ verdict_of (Listing-counted vertices) }
 {
     if vertices < 1 {
         return Verdict::Refused(Refusal::Value(0));

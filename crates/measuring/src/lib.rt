@@ -1,4 +1,6 @@
 // The distances of the automaton's states, from a graph's table of weights and forbidden paths as bytes.
+#![tactic(auto)]
+
 ghost use Rattle.std.specs.Prelude.{◌≡◌, ◌≤◌, length, take};
 ghost use Rattle.walks.specs.Graph.{Graph};
 ghost use Rattle.walks.specs.Weights.{Weights};

@@ -1,4 +1,6 @@
 // Plans the case on standard input: marks in two bytes (high byte first), start, end, and a book.
+#![tactic(auto)]
+
 use limits::{STDIN, STDOUT};
 
 fn main() {

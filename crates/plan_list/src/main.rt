@@ -1,6 +1,8 @@
 // Plans from each list of a stream of frames. A frame has the count of vertices in two bytes (high byte first, as all numbers here), start,
 // end, the count of known runs in two, the lengths of the line-up area and of the runs area in two each, the runs area, and then the
 // list: six bytes an item, of which the last four are the weight. What is left after the last whole item is no item.
+#![tactic(auto)]
+
 ghost use Rattle.std.specs.Prelude.{◌+◌, ◌*◌, ◌≤◌, ◌<◌, ◌≡◌, length, take};
 ghost use Rattle.book.specs.Reading.{u16_at};
 ghost use Rattle.planner.specs.Planning.{PlanningOf};

@@ -5,8 +5,8 @@ use mathlib.Core.List.{List, [], ◌∷◌, ◌++◌, Permᴰ}
 use Rattle.std.proofs.Math.Option.{Option, none, some}
 use Rattle.walks.specs.Graph.{Graph, Arc, from_arcs}
 use Rattle.walks.specs.Walk.{weight_of, hops}
-use Rattle.walks.specs.Avoid.{Avoids·mono}
-use Rattle.walks.specs.Best.{Best·unique, Best·not-None, NoStricter, Best·same}
+use Rattle.walks.specs.Avoid.{Avoids-mono}
+use Rattle.walks.specs.Best.{Best-unique, Best-not-None, NoStricter, Best-same}
 use Rattle.book.specs.declared.Refusal.{Refusal}
 use Rattle.book.specs.Refusal.{Test, test, refusal_by}
 use Rattle.book.specs.Book.{Book, graph}
@@ -39,8 +39,8 @@ pub reordered_walks : (b c : Book) → Reordered b c → SameWalks b c
 reordered_walks b c o =
     record {
       same = o.same;
-      to = λ flags w _. Avoids·mono (same_set flags b c o.sets).1;
-      from = λ flags w _. Avoids·mono (same_set flags b c o.sets).0;
+      to = λ flags w _. Avoids-mono (same_set flags b c o.sets).1;
+      from = λ flags w _. Avoids-mono (same_set flags b c o.sets).0;
     }
 
 -- Plans under two lists of forbidden paths that leave the same walks are equal; with one list, this says that there is one plan.
@@ -48,12 +48,12 @@ pub planned-same : (x : Option Refusal) (g : Graph) (F G : List (List ℕ)) → 
     → Planned x g F s t old r new → Planned x g G s t old r' new' → (r ≡ r') × (new ≡ new')
 planned-same (some x) g F G to from s t old r r' new new' p p' = (p.0 ∙ sym p'.0, p.1 ∙ sym p'.1)
 planned-same none g F G to from s t old (Walk w h) (Walk w' h') new new' p p' =
-    let same = Best·unique (Best·same to from p.best) p'.best in (
+    let same = Best-unique (Best-same to from p.best) p'.best in (
       ap₂ Walk (p.weight_is ∙ ap (weight_of g) same ∙ sym p'.weight_is) (p.hops-is ∙ ap hops same ∙ sym p'.hops-is),
       p.area-is ∙ ap (λ w. w ++ drop (length w) old) same ∙ sym p'.area-is,
     )
-planned-same none g F G to from s t old (Walk w h) Nothing new new' p p' = absurd (Best·not-None (Best·same to from p.best) p'.0)
-planned-same none g F G to from s t old Nothing (Walk w h) new new' p p' = absurd (Best·not-None (Best·same from to p'.best) p.0)
+planned-same none g F G to from s t old (Walk w h) Nothing new new' p p' = absurd (Best-not-None (Best-same to from p.best) p'.0)
+planned-same none g F G to from s t old Nothing (Walk w h) new new' p p' = absurd (Best-not-None (Best-same from to p'.best) p.0)
 planned-same none g F G to from s t old Nothing Nothing new new' p p' = (refl, p.1 ∙ sym p'.1)
 planned-same none g F G to from s t old (Refused x) r' new new' p p' = absurd p
 planned-same none g F G to from s t old (Walk w h) (Refused x) new new' p p' = absurd p'

@@ -1,4 +1,6 @@
 // Planning: the best walk of a book under the forbidden paths of a runs area.
+#![tactic(auto)]
+
 ghost use Rattle.std.specs.Prelude.{◌≡◌, true, ◌<◌, ◌≤◌, length};
 ghost use Rattle.book.specs.Book.{Book, graph};
 ghost use Rattle.book.specs.Reading.{accepted};

@@ -2,6 +2,8 @@
 //
 // The arc from u to v weighs weights[u * 64 + v]. State q steps over v to steps[q * 64 + v], has the blocked vertices as the
 // bits of blocked[q], and stands at latest[q].
+#![tactic(auto)]
+
 ghost use Rattle.std.specs.Prelude.{◌≡◌, not, ◌&&◌, List, ◌++◌, ◌+◌, ◌*◌, ◌%◌, ◌<◌, ◌≤◌, eqb, length};
 ghost use Rattle.distances.specs.Edge.{Edge, edges};
 ghost use Rattle.distances.specs.Table.{passes};

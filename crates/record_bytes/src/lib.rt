@@ -1,4 +1,6 @@
 // Numbers and a record from bytes, high byte first: what a test program's case begins with.
+#![tactic(auto)]
+
 ghost use Rattle.std.specs.Prelude.{◌≡◌, length, ◌+◌, ◌≤◌, ◌<◌};
 ghost use Rattle.record_bytes.specs.Numbers.{word_at, four_at, eight_at, record_at};
 

@@ -1,4 +1,6 @@
 // Replays the trials on standard input.
+#![tactic(auto)]
+
 use limits::STDIN;
 
 fn main() {

@@ -4,7 +4,7 @@ ghost use Rattle.walks.specs.Avoid.{same};
 ghost use Rattle.rules.specs.Binding.{member};
 ghost use Rattle.rules.specs.Area.{blocks};
 ghost use Rattle.limits.specs.Limits.{entry_size, area_size};
-ghost use Rattle.rules.specs.Area.{is_entry as Area·is_entry, valid as Area·valid};
+ghost use Rattle.rules.specs.Area.{is_entry as Area-is_entry, valid as Area-valid};
 
 use book::is_path;
 use limits::{AREA, ENTRY, LONGEST_PATH, MOST_PATHS};
@@ -45,7 +45,7 @@ pub fn found(b: &[u8], at: usize, table: &[u8], n: usize) -> bool
 // Whether the entry at byte `at` is one that the book's rules take.
 fn is_entry(area: &[u8], at: usize, vertices: usize) -> bool
     requires { at + entry_size ≤ length area.now }
-    ensures { result ≡ Area·is_entry vertices (take entry_size (drop at area.now)) }
+    ensures { result ≡ Area-is_entry vertices (take entry_size (drop at area.now)) }
 {
     let n = wide(area[at]);
     if LONGEST_PATH < n {
@@ -57,7 +57,7 @@ fn is_entry(area: &[u8], at: usize, vertices: usize) -> bool
 // The paths are entered into a blank area one after the other, which at the end is to be the area itself.
 pub fn valid(area: &[u8], count: usize, vertices: usize) -> bool
     requires { area_size ≤ length area.now }
-    ensures { result ≡ Area·valid vertices area.now count }
+    ensures { result ≡ Area-valid vertices area.now count }
 {
     if MOST_PATHS < count {
         return false;

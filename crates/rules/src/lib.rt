@@ -1,4 +1,6 @@
 // Rule sets: which apply to a batch, and the forbidden paths that are known then.
+#![tactic(auto)]
+
 ghost use Rattle.std.specs.Prelude.{◌≡◌};
 ghost use Rattle.rules.specs.Operations.{binding, bound_as, area_after};
 

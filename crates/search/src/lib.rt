@@ -1,5 +1,7 @@
 // The whole search, from a graph's table of weights and forbidden paths as bytes to the best walk, in work tables for the states that there
 // can be.
+#![tactic(auto)]
+
 ghost use Rattle.std.specs.Prelude.{◌≡◌, ◌<◌, ◌≤◌, length};
 ghost use Rattle.walks.specs.Graph.{Graph};
 ghost use Rattle.walks.specs.Weights.{Weights};

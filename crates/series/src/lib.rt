@@ -1,5 +1,7 @@
 // Trials over a list of reports as bytes: 0 is passed; 1, a number n and n vertices is failed, and names them. A report that is cut short ends
 // the list, and so does any other first byte.
+#![tactic(auto)]
+
 ghost use Rattle.std.specs.Prelude.{◌≡◌, true, ◌+◌, ◌≤◌, length, drop};
 ghost use Rattle.trials.specs.Operations.{answering, record_in};
 ghost use Rattle.series.specs.Reports.{is_report, size_of};

@@ -12,9 +12,9 @@ use Rattle.std.proofs.lemmas.List.{length-reverse}
 use Rattle.std.proofs.Math.Seq.{take-length, get_or-take}
 use Rattle.std.proofs.Math.Facts.{or_yes}
 use Rattle.lists.specs.Test.{conj, any, any→some, some→any, or_left, or_right, T_ext}
-use Rattle.walks.specs.Avoid.{Occurs, occurs, is_prefix, is_prefix→append, is_prefix-refl, same, same→≡, same_refl, occurs→Occurs, Occurs→occurs, Occurs·reverse, Avoids, Long}
+use Rattle.walks.specs.Avoid.{Occurs, occurs, is_prefix, is_prefix→append, is_prefix-refl, same, same→≡, same_refl, occurs→Occurs, Occurs→occurs, Occurs-reverse, Avoids, Long}
 use Rattle.states.specs.Longest.{longest_front, longest-is, longest_cons, is_prefix→longest, longest→is_prefix}
-use Rattle.states.specs.States.{State, prefix, is_state, latest, State·closed, is_state→State, State→is_state}
+use Rattle.states.specs.States.{State, prefix, is_state, latest, State-closed, is_state→State, State→is_state}
 
 -- The state of a walk: its longest suffix that is a state.
 unfoldable pub state : List (List ℕ) → List ℕ → List ℕ
@@ -42,10 +42,10 @@ unfoldable pub forbidden : List (List ℕ) → List ℕ → Bool
 forbidden F q = any (same (reverse q)) F
 
 occurs→reverse : (r w : List ℕ) → T (occurs (reverse r) w) → Occurs r (reverse w)
-occurs→reverse r w t = rw reverse-reverse at (Occurs·reverse (occurs→Occurs (reverse r) w t))
+occurs→reverse r w t = rw reverse-reverse at (Occurs-reverse (occurs→Occurs (reverse r) w t))
 
 reverse→occurs : (r w : List ℕ) → Occurs r (reverse w) → T (occurs (reverse r) w)
-reverse→occurs r w o = Occurs→occurs (reverse r) w (rw reverse-reverse at (Occurs·reverse o))
+reverse→occurs r w o = Occurs→occurs (reverse r) w (rw reverse-reverse at (Occurs-reverse o))
 
 module _ (F : List (List ℕ)) where
   pub forbidden→member : (q : List ℕ) → T (forbidden F q) → Memᴰ (reverse q) F
@@ -59,7 +59,7 @@ module _ (F : List (List ℕ)) where
   member→forbidden q m = some→any (same (reverse q)) m (same_refl (reverse q))
 
   closed : (v : ℕ) (q : List ℕ) → 0 < length q → T (is_state F (v ∷ q)) → T (is_state F q)
-  closed v q h t = State→is_state F q (State·closed v q h (is_state→State F (v ∷ q) t))
+  closed v q h t = State→is_state F q (State-closed v q h (is_state→State F (v ∷ q) t))
 
   -- Theorem 2: the state after one more vertex depends on the state alone.
   pub state_cons : (v : ℕ) (w : List ℕ) → state F (v ∷ w) ≡ go F (state F w) v

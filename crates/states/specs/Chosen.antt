@@ -11,9 +11,9 @@ use Rattle.std.proofs.Math.Dec.{T}
 use Rattle.lists.specs.Distinct.{Distinct, mem?}
 use Rattle.walks.specs.Graph.{Graph}
 use Rattle.walks.specs.Walk.{weight_from}
-use Rattle.walks.specs.Avoid.{Avoids, Avoids·front}
+use Rattle.walks.specs.Avoid.{Avoids, Avoids-front}
 use Rattle.walks.specs.Order.{◌≼⟨◌⟩◌, ≼_refl, ≼_trans, ≼-total}
-use Rattle.walks.specs.Best.{Feasible, Feasible·cons, Best, None}
+use Rattle.walks.specs.Best.{Feasible, Feasible-cons, Best, None}
 use Rattle.walks.specs.Feasible.{is_feasible, is_feasible→Feasible, Feasible→is_feasible}
 use Rattle.states.specs.States.{vertex, latest}
 use Rattle.states.specs.Automaton.{go, latest-go}
@@ -82,7 +82,7 @@ module _ (g : Graph) (F : List (List ℕ)) (s t m : ℕ) (size : (r : List ℕ) 
       below = f.walk.below 0 (omega arith)
 
       clear : Avoids F (s ∷ [])
-      clear = Avoids·front (s ∷ []) c f.clear
+      clear = Avoids-front (s ∷ []) c f.clear
 
       r : (d : List ℕ) × Shortened g F t (s ∷ []) c d
       r = shorten g F t c (s ∷ []) ((feasible-follows g F t s c below clear).0 f)
@@ -98,7 +98,7 @@ module _ (g : Graph) (F : List (List ℕ)) (s t m : ℕ) (size : (r : List ℕ) 
 
   pub short-feasible : (w : List ℕ) → Feasible g F s t w → (v : List ℕ) × ShortFeasible g F s t (g.count + length F * m) w v
   short-feasible w f =
-      let p = Feasible·cons w f in
+      let p = Feasible-cons w f in
       let r = short-from p.0 (rw p.1 at f) in
       (r.0, subst (λ (x : List ℕ). ShortFeasible g F s t (g.count + length F * m) x r.0) (sym p.1) r.1)
 

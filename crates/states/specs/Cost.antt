@@ -3,7 +3,7 @@ use Rattle.std.specs.Prelude.{List, ◌≡◌, ℕ, suc, ◌+◌, ◌≤◌, len
 use Rattle.std.proofs.Common.{inl, inr, arith, le_trans}
 use Rattle.walks.specs.Graph.{Graph}
 use Rattle.walks.specs.Walk.{weight_from}
-use Rattle.walks.specs.Order.{Tiebreak, Tiebreak·trans, Tiebreak·antisym}
+use Rattle.walks.specs.Order.{Tiebreak, Tiebreak-trans, Tiebreak-antisym}
 use Rattle.states.specs.States.{latest}
 
 pub record Cost : Type 0 where
@@ -23,11 +23,11 @@ abbrev pub cost_of : Graph → List ℕ → List ℕ → Cost
 cost_of g q c = record { weight = weight_from g (latest q) c; hops = length c }
 
 pub ≤ᶜ-trans : {x y z : Cost} → x ≤ᶜ y → y ≤ᶜ z → x ≤ᶜ z
-≤ᶜ-trans = Tiebreak·trans le_trans
+≤ᶜ-trans = Tiebreak-trans le_trans
 
 pub ≤ᶜ-antisym : {x y : Cost} → x ≤ᶜ y → y ≤ᶜ x → x ≡ y
 ≤ᶜ-antisym {x} {y} p q =
-    let h = Tiebreak·antisym p q in
+    let h = Tiebreak-antisym p q in
     let k : x.hops ≡ y.hops = omega arith in
     λ i. record { weight = h.0 i; hops = k i }
 

@@ -5,10 +5,10 @@ use Rattle.std.proofs.Math.Path.{refl}
 use Rattle.std.proofs.Common.{sym, ◌∙◌, arith}
 use Rattle.lists.specs.Test.{conj}
 use Rattle.walks.specs.Graph.{Graph, is_arc}
-use Rattle.walks.specs.Walk.{Walk, Walk·single, Walk·cons, Walk·tail}
-use Rattle.walks.specs.Avoid.{Avoids, Avoids·front}
+use Rattle.walks.specs.Walk.{Walk, Walk-single, Walk-cons, Walk-tail}
+use Rattle.walks.specs.Avoid.{Avoids, Avoids-front}
 use Rattle.walks.specs.Order.{◌≼⟨◌⟩◌}
-use Rattle.walks.specs.Best.{Feasible, Feasible·cons, Best, None}
+use Rattle.walks.specs.Best.{Feasible, Feasible-cons, Best, None}
 use Rattle.states.specs.States.{latest}
 use Rattle.states.specs.Automaton.{state, go, blocked, state_cons, latest-go, avoids_cons}
 
@@ -36,7 +36,7 @@ module _ (F : List (List ℕ)) where
       there : (c w : List ℕ) → Avoids F (reverse_aux w c) → T (unblocked F (state F w) c)
       there [] w a = tt
       there (v ∷ c) w a =
-          let b : Avoids F (reverse (v ∷ w)) = Avoids·front (reverse (v ∷ w)) c (rw (reverse_aux-eq (v ∷ w) c) at a) in
+          let b : Avoids F (reverse (v ∷ w)) = Avoids-front (reverse (v ∷ w)) c (rw (reverse_aux-eq (v ∷ w) c) at a) in
           search (conj, ((avoids_cons F v w).0 b).1, rw state_cons at (there c (v ∷ w) a))
 
       back : (c w : List ℕ) → Avoids F (reverse w) → T (unblocked F (state F w) c) → Avoids F (reverse_aux w c)
@@ -46,17 +46,17 @@ module _ (F : List (List ℕ)) where
 
 module _ (g : Graph) (F : List (List ℕ)) (t : ℕ) where
   Follows→ : (c q : List ℕ) (u : ℕ) → latest q ≡ u → u < g.count → Follows g F t q c → Walk g (u ∷ c) × (get_or (u ∷ c) (length c) 0 ≡ t) × T (unblocked F q c)
-  Follows→ [] q u e b f = (Walk·single b, sym e ∙ f, tt)
+  Follows→ [] q u e b f = (Walk-single b, sym e ∙ f, tt)
   Follows→ (v ∷ c) q u e b f =
       let s = f.0 in
       let h = Follows→ c (go F q v) v (latest-go F q v) s.below f.1 in
-      (Walk·cons b (rw e at s.arc) h.0, h.1, search conj)
+      (Walk-cons b (rw e at s.arc) h.0, h.1, search conj)
 
   →Follows : (c q : List ℕ) (u : ℕ) → latest q ≡ u → Walk g (u ∷ c) → get_or (u ∷ c) (length c) 0 ≡ t → T (unblocked F q c) → Follows g F t q c
   →Follows [] q u e w h b = e ∙ h
   →Follows (v ∷ c) q u e w h b = (
     record { arc = rw e (w.arcs 0 (omega arith)); below = w.below 1 (omega arith); free = search conj },
-    →Follows c (go F q v) v (latest-go F q v) (Walk·tail w) h (search conj),
+    →Follows c (go F q v) v (latest-go F q v) (Walk-tail w) h (search conj),
   )
 
   -- Theorem 4: a walk from s is feasible exactly if it can be followed from the state of s over unblocked steps and ends at t.
@@ -71,12 +71,12 @@ module _ (g : Graph) (F : List (List ℕ)) (t : ℕ) where
   -- Best and None are those of the product's paths.
   module _ (s : ℕ) (below : s < g.count) (clear : Avoids F (s ∷ [])) where
     pub follows-best : (c : List ℕ) → Follows g F t (s ∷ []) c → ((c' : List ℕ) → Follows g F t (s ∷ []) c' → (s ∷ c) ≼⟨ g ⟩ (s ∷ c')) → Best g F s t (s ∷ c)
-    follows-best c f h = record { feasible = (feasible-follows s c below clear).1 f; least = λ v x. least v x (Feasible·cons v x) }
+    follows-best c f h = record { feasible = (feasible-follows s c below clear).1 f; least = λ v x. least v x (Feasible-cons v x) }
       where
         least : (v : List ℕ) → Feasible g F s t v → (c' : List ℕ) × (v ≡ s ∷ c') → (s ∷ c) ≼⟨ g ⟩ v
         least v x p = rw p.1 (h p.0 ((feasible-follows s p.0 below clear).0 (rw p.1 at x)))
 
     pub follows-none : ((c : List ℕ) → Follows g F t (s ∷ []) c → ⊥) → None g F s t
     follows-none h w x =
-        let p = Feasible·cons w x in
+        let p = Feasible-cons w x in
         h p.0 ((feasible-follows s p.0 below clear).0 (rw p.1 at x))

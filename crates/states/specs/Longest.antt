@@ -37,8 +37,8 @@ module _ (P : List ℕ → Bool) where
           below j p h t (yes q) = absurd (rw (q, e) at t)
           below j p h t (no q) = l.most j p (omega arith) t
 
-  pub Longest·unique : {n : ℕ} {w q q' : List ℕ} → Longest P n w q → Longest P n w q' → q ≡ q'
-  Longest·unique {n} {w} l k = cc (l.is-take, k.is-take, sizes)
+  pub Longest-unique : {n : ℕ} {w q q' : List ℕ} → Longest P n w q → Longest P n w q' → q ≡ q'
+  Longest-unique {n} {w} l k = cc (l.is-take, k.is-take, sizes)
     where
       at_most : {a b : List ℕ} (x : Longest P n w a) (y : Longest P n w b) → Dec (0 < x.size) → x.size ≤ y.size
       at_most x y (yes p) = y.most x.size p x.within (x.passes p)
@@ -75,7 +75,7 @@ module _ (P : List ℕ → Bool) where
     -- Where dropping the front vertex of a passing list leaves one that passes, the longest part of v ∷ w is found from v and the longest part of w alone.
     pub longest_cons : (n v : ℕ) (w : List ℕ) → n ≤ length w → longest_front P (suc n) (v ∷ w) ≡ longest_front P (suc (length (longest_front P n w))) (v ∷ longest_front P n w)
     longest_cons n v w h =
-        Longest·unique (longest-is (suc n) (v ∷ w)) from_part ∙ sym (ap (λ (q : List ℕ). longest_front P (suc (length q)) (v ∷ q)) l.is-take ∙ rw (length-take-le m w (omega (arith, l.within))))
+        Longest-unique (longest-is (suc n) (v ∷ w)) from_part ∙ sym (ap (λ (q : List ℕ). longest_front P (suc (length q)) (v ∷ q)) l.is-take ∙ rw (length-take-le m w (omega (arith, l.within))))
       where
         l : Longest P n w (longest_front P n w)
         l = longest-is n w

@@ -5,9 +5,9 @@ use Rattle.std.proofs.Common.{inl, inr, sym, ap, subst, arith}
 use Rattle.std.specs.Prelude.{◌≡◌, refl, ℕ, suc, ◌+◌, ◌*◌, ◌<◌, ◌≤◌, length}
 use Rattle.walks.specs.Graph.{Graph, arc_weight}
 use Rattle.walks.specs.Walk.{weight_from, weight_of, hops-length, weight-bound}
-use Rattle.walks.specs.Avoid.{Avoids, Avoids·front}
+use Rattle.walks.specs.Avoid.{Avoids, Avoids-front}
 use Rattle.walks.specs.Order.{◌≼⟨◌⟩◌, Tiebreak, Lex}
-use Rattle.walks.specs.Best.{Feasible·cons, Best}
+use Rattle.walks.specs.Best.{Feasible-cons, Best}
 use Rattle.states.specs.States.{State, vertex, latest}
 use Rattle.states.specs.Automaton.{go, go-state, latest-go}
 use Rattle.states.specs.Follow.{Follows, feasible-follows}
@@ -63,7 +63,7 @@ module _ (g : Graph) (F : List (List ℕ)) (t : ℕ) where
     best-length m h = subst (λ (x : List ℕ). length x ≤ g.count + length F * m) (sym split.1) count
       where
         split : (c : List ℕ) × (w ≡ s ∷ c)
-        split = Feasible·cons w best.feasible
+        split = Feasible-cons w best.feasible
 
         c : List ℕ
         c = split.0
@@ -75,7 +75,7 @@ module _ (g : Graph) (F : List (List ℕ)) (t : ℕ) where
         below = same.feasible.walk.below 0 (omega arith)
 
         clear : Avoids F (s ∷ [])
-        clear = Avoids·front (s ∷ []) c same.feasible.clear
+        clear = Avoids-front (s ∷ []) c same.feasible.clear
 
         cheaper : (d : List ℕ) → (s ∷ c) ≼⟨ g ⟩ (s ∷ d) → cost_of g (s ∷ []) c ≤ᶜ cost_of g (s ∷ []) d
         cheaper d (inl p) = inl p

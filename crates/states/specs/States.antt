@@ -26,9 +26,9 @@ abbrev pub latest : List ℕ → ℕ
 latest q = get_or q 0 0
 
 -- Theorem 1: without its latest vertex a state is a state, unless nothing is left.
-pub State·closed : {F : List (List ℕ)} (v : ℕ) (q : List ℕ) → 0 < length q → State F (v ∷ q) → State F q
-State·closed v q h (vertex u e) = absurd (omega (arith, ap length e))
-State·closed v q h (prefix m u b e l) = prefix m v (u ∷ b) e h
+pub State-closed : {F : List (List ℕ)} (v : ℕ) (q : List ℕ) → 0 < length q → State F (v ∷ q) → State F q
+State-closed v q h (vertex u e) = absurd (omega (arith, ap length e))
+State-closed v q h (prefix m u b e l) = prefix m v (u ∷ b) e h
 
 is_proper→ : (q r : List ℕ) → T (is_proper q r) → (v : ℕ) × (b : List ℕ) × (r ≡ reverse_aux q (v ∷ b))
 is_proper→ q r t =

@@ -5,6 +5,8 @@
 // and of the table, and the book. The head: start; the count of known paths in eight bytes; how many bytes of the area are given
 // and how many follow in two each, and the byte that they are; how many numbers of the table are given and how many follow in two
 // each, and the number that they are in four.
+#![tactic(auto)]
+
 ghost use Rattle.std.specs.Prelude.{◌+◌, ◌*◌, ◌≤◌, ◌≡◌, length};
 ghost use Rattle.book.specs.Reading.{reading};
 ghost use Rattle.reach.specs.Reaching.{table_after};

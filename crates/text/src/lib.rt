@@ -1,8 +1,10 @@
 // The writing of text: each function writes from the place `at` on, and answers the place after what it wrote.
+#![tactic(auto)]
+
 ghost use Rattle.std.specs.Prelude.{◌∷◌, ◌++◌, ◌+◌, ◌*◌, ◌≤◌, length};
 ghost use Rattle.limits.specs.Limits.{longest};
 ghost use Rattle.text.specs.Text.{cost_text, plan_text, place_text, refusal_text, found_text, longest_text};
-ghost use Rattle.text.specs.Text.{decimal as Text·decimal, vertices as Text·vertices, followed as Text·followed};
+ghost use Rattle.text.specs.Text.{decimal as Text-decimal, vertices as Text-vertices, followed as Text-followed};
 ghost use Rattle.text.specs.Writing.{Wrote, Standing};
 
 use book::Refusal;
@@ -12,8 +14,8 @@ use routes::Found;
 pub const LONGEST_TEXT: usize = 8192;
 
 pub fn decimal(n: u64, out: &mut [u8], at: usize) -> usize
-    requires { at + length (Text·decimal n) ≤ length out.old }
-    ensures { Wrote (Text·decimal n) at out.old result out.new }
+    requires { at + length (Text-decimal n) ≤ length out.old }
+    ensures { Wrote (Text-decimal n) at out.old result out.new }
 {
     if n < 10 {
         out[at] = (48 + n) as u8;
@@ -39,7 +41,7 @@ pub fn word(s: &[u8], out: &mut [u8], at: usize) -> usize
 // A word and a number.
 fn named(s: &[u8], n: u64, out: &mut [u8], at: usize) -> usize
     requires { at + length s.now + 20 ≤ length out.old }
-    ensures wrote { Wrote (s.now ++ Text·decimal n) at out.old result out.new }
+    ensures wrote { Wrote (s.now ++ Text-decimal n) at out.old result out.new }
     ensures upper_bound { result ≤ at + length s.now + 20 }
 {
     let next = word(s, out, at);
@@ -49,7 +51,7 @@ fn named(s: &[u8], n: u64, out: &mut [u8], at: usize) -> usize
 // A blank and a vertex.
 fn vertex(v: u8, out: &mut [u8], at: usize) -> usize
     requires { at + 4 ≤ length out.old }
-    ensures wrote { Wrote (32 ∷ Text·decimal v) at out.old result out.new }
+    ensures wrote { Wrote (32 ∷ Text-decimal v) at out.old result out.new }
     ensures upper_bound { result ≤ at + 4 }
 {
     out[at] = b' ';
@@ -59,7 +61,7 @@ fn vertex(v: u8, out: &mut [u8], at: usize) -> usize
 // Each vertex after a blank.
 fn followed(walk: &[u8], out: &mut [u8], at: usize) -> usize
     requires { at + length walk.now * 4 ≤ length out.old }
-    ensures wrote { Wrote (Text·followed walk.now) at out.old result out.new }
+    ensures wrote { Wrote (Text-followed walk.now) at out.old result out.new }
     ensures upper_bound { result ≤ at + length walk.now * 4 }
 {
     let mut next = at;
@@ -75,7 +77,7 @@ fn followed(walk: &[u8], out: &mut [u8], at: usize) -> usize
 fn vertices(walk: &[u8], out: &mut [u8], at: usize) -> usize
     requires in_bounds { 1 ≤ length walk.now }
     requires walk_in_bounds { at + length walk.now * 4 ≤ length out.old }
-    ensures wrote { Wrote (Text·vertices walk.now) at out.old result out.new }
+    ensures wrote { Wrote (Text-vertices walk.now) at out.old result out.new }
     ensures upper_bound { result ≤ at + length walk.now * 4 }
 {
     let next = decimal(walk[0] as u64, out, at);

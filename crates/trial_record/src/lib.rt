@@ -1,8 +1,10 @@
 // The record of the trials, and its steps: each takes the record by value and hands the next one back.
+#![tactic(auto)]
+
 ghost use Rattle.std.specs.Prelude.{◌≡◌, ◌≤◌, ◌<◌};
 ghost use Rattle.limits.specs.Limits.{most_paths};
 ghost use Rattle.trial_record.specs.Steps.{fresh, with_plan, Recordable, passed_of, failed_of};
-ghost use Rattle.trial_record.specs.Steps.{replanned as Steps·replanned};
+ghost use Rattle.trial_record.specs.Steps.{replanned as Steps-replanned};
 
 use routes::Found;
 
@@ -64,7 +66,7 @@ impl Record {
     // The plan anew.
     pub fn replanned(self, found: Found) -> Record
         requires { Recordable found }
-        ensures { result ≡ Steps·replanned self found }
+        ensures { result ≡ Steps-replanned self found }
     {
         match found {
             Found::Walk { weight, hops } => self.standing(weight, hops + 1),

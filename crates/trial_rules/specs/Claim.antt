@@ -10,7 +10,7 @@ use Rattle.std.proofs.Math.Decide.{ℕ_discrete}
 use Rattle.lists.specs.Test.{true→T}
 use Rattle.walks.specs.Graph.{Graph}
 use Rattle.walks.specs.Avoid.{occurs, occurs→Occurs}
-use Rattle.walks.specs.Best.{Best, None, Best·not-None}
+use Rattle.walks.specs.Best.{Best, None, Best-not-None}
 use Rattle.book.specs.declared.Refusal.{Refusal}
 use Rattle.book.specs.Refusal.{numbered, refusal_by}
 use Rattle.book.specs.RefusalLaws.{Fails, here, later, first-fails}
@@ -91,7 +91,7 @@ claimed b done σ c =
       best = c.best;
       nothing = (
         c.nothing,
-        λ n. by_cases (ℕ_discrete σ.rec.stage 2) (λ e. e) (λ (ne : ¬ (σ.rec.stage ≡ 2)). absurd (Best·not-None (c.best ne) n)),
+        λ n. by_cases (ℕ_discrete σ.rec.stage 2) (λ e. e) (λ (ne : ¬ (σ.rec.stage ≡ 2)). absurd (Best-not-None (c.best ne) n)),
       );
       passed-stage =
           (λ e. sym c.passed-count ∙ v.passed ∙ rw e refl, λ e. one_just_in_stage_1 σ.rec.stage (sym v.passed ∙ c.passed-count ∙ e));

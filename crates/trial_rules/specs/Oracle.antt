@@ -11,7 +11,7 @@ use Rattle.walks.specs.Walk.{weight_of}
 use Rattle.walks.specs.Order.{≼-weight}
 use Rattle.walks.specs.Avoid.{occurs, Occurs, Occurs→occurs, Avoids, ◌⊆◌}
 use Rattle.book.specs.Book.{is_path}
-use Rattle.walks.specs.Best.{Feasible, Best, None, Best·mono, None·mono, Best·not-None}
+use Rattle.walks.specs.Best.{Feasible, Best, None, Best-mono, None-mono, Best-not-None}
 use Rattle.limits.specs.Limits.{most_paths}
 use Rattle.trial_rules.specs.Trials.{Report, passed, failed, State, standing, trials, refusal, is_named, has_room, stage_of, step, EachAccepted, named, failures, Begin, begun, state_after, accepted_of}
 use Rattle.trial_rules.specs.Accepted.{begin-accepted, not-refused}
@@ -137,7 +137,7 @@ module _ (b : Begin) (R : List (List ℕ)) (set : OracleSet b R) where
         let v = c.valid in
         let a = begin-accepted b in
         let best : σ.rec.stage ≡ 1 → Best g (F₀ ++ R) s t (standing σ) =
-        λ e. Best·mono known_in (c.best (λ f. omega arith)) (all-clear e) in
+        λ e. Best-mono known_in (c.best (λ f. omega arith)) (all-clear e) in
         record {
           rules = claimed b done σ c;
           failed-counted = c.failed-count;
@@ -153,7 +153,7 @@ module _ (b : Begin) (R : List (List ℕ)) (set : OracleSet b R) where
           passed-best = best;
           over = two_ways;
           none-exactly =
-              λ ne. (λ e. None·mono known_in (c.nothing e), λ n. ⊎_elim (λ e. absurd (Best·not-None (best e) n)) (λ e. e) (two_ways ne));
+              λ ne. (λ e. None-mono known_in (c.nothing e), λ n. ⊎_elim (λ e. absurd (Best-not-None (best e) n)) (λ e. e) (two_ways ne));
         }
       where
         all-clear : σ.rec.stage ≡ 1 → Avoids (F₀ ++ R) (standing σ)

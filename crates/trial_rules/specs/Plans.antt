@@ -3,7 +3,7 @@ use Rattle.std.specs.Prelude.{ℕ, ◌<◌, ◌≡◌, refl, List}
 use Rattle.std.proofs.Common.{ap}
 use Rattle.std.proofs.Math.Option.{Option, none, some}
 use Rattle.walks.specs.Graph.{Graph}
-use Rattle.walks.specs.Best.{Best, None, Best·unique, Best·not-None}
+use Rattle.walks.specs.Best.{Best, None, Best-unique, Best-not-None}
 use Rattle.states.specs.Chosen.{Decided}
 use Rattle.trial_rules.specs.Trials.{ForbiddenSet, Plan, Planner}
 
@@ -15,12 +15,12 @@ module _
     plan-best {w} b = go (plan F s t) (planner.plans F s t set start end)
       where
         go : (p : Option (List ℕ)) → Decided g F s t p → p ≡ some w
-        go none n = absurd (Best·not-None b n)
-        go (some v) (c, short) = ap some (Best·unique c b)
+        go none n = absurd (Best-not-None b n)
+        go (some v) (c, short) = ap some (Best-unique c b)
 
     pub plan-none : None g F s t → plan F s t ≡ none
     plan-none n = go (plan F s t) (planner.plans F s t set start end)
       where
         go : (p : Option (List ℕ)) → Decided g F s t p → p ≡ none
         go none _ = refl
-        go (some v) (c, short) = absurd (Best·not-None c n)
+        go (some v) (c, short) = absurd (Best-not-None c n)

@@ -1,4 +1,6 @@
 // The trials of a batch (01, 'Trials'): begin, and what the oracle (01: the lab) reports.
+#![tactic(auto)]
+
 mod opening;
 mod report;
 

@@ -1,4 +1,6 @@
 // The check of a walk against the forbidden paths of a runs area.
+#![tactic(auto)]
+
 ghost use Rattle.std.specs.Prelude.{◌≡◌};
 ghost use Rattle.walk_check.specs.Checking.{checking};
 

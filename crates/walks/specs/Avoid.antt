@@ -104,14 +104,14 @@ Avoids→avoids F w h = not_T (any (λ r. occurs r w) F) (λ t. refute (any→so
     refute : (r : List ℕ) × Memᴰ r F × T (occurs r w) → ⊥
     refute x = h x.0 x.1 (occurs→Occurs x.0 w x.2)
 
-pub Avoids·mono : {F F' : List (List ℕ)} {w : List ℕ} → F ⊆ F' → Avoids F' w → Avoids F w
-Avoids·mono s h r m = h r (s r m)
+pub Avoids-mono : {F F' : List (List ℕ)} {w : List ℕ} → F ⊆ F' → Avoids F' w → Avoids F w
+Avoids-mono s h r m = h r (s r m)
 
-pub Avoids·single : {F : List (List ℕ)} → Long F → (v : ℕ) → Avoids F (v ∷ [])
-Avoids·single long v r m o = omega (arith, long r m, simp length-append at (ap length o.split))
+pub Avoids-single : {F : List (List ℕ)} → Long F → (v : ℕ) → Avoids F (v ∷ [])
+Avoids-single long v r m o = omega (arith, long r m, simp length-append at (ap length o.split))
 
-pub Avoids·front : {F : List (List ℕ)} (v w : List ℕ) → Avoids F (v ++ w) → Avoids F v
-Avoids·front v w h r m o = h r m (record { before = o.before; after = o.after ++ w; split = rw o.split (simp append_assoc) })
+pub Avoids-front : {F : List (List ℕ)} (v w : List ℕ) → Avoids F (v ++ w) → Avoids F v
+Avoids-front v w h r m o = h r m (record { before = o.before; after = o.after ++ w; split = rw o.split (simp append_assoc) })
 
-pub Occurs·reverse : {r w : List ℕ} → Occurs r w → Occurs (reverse r) (reverse w)
-Occurs·reverse o = record { before = reverse o.after; after = reverse o.before; split = ap reverse o.split ∙ simp (reverse-append, append_assoc) }
+pub Occurs-reverse : {r w : List ℕ} → Occurs r w → Occurs (reverse r) (reverse w)
+Occurs-reverse o = record { before = reverse o.after; after = reverse o.before; split = ap reverse o.split ∙ simp (reverse-append, append_assoc) }

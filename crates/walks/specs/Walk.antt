@@ -35,15 +35,15 @@ hops [] = 0
 hops (v ∷ w) = length w
 
 module _ {g : Graph} where
-  pub Walk·single : {v : ℕ} → v < g.count → Walk g (v ∷ [])
-  Walk·single {v} b = record { nonempty = omega arith; below = below; arcs = λ i l. absurd (omega arith) }
+  pub Walk-single : {v : ℕ} → v < g.count → Walk g (v ∷ [])
+  Walk-single {v} b = record { nonempty = omega arith; below = below; arcs = λ i l. absurd (omega arith) }
     where
       below : (i : ℕ) → i < 1 → get_or (v ∷ []) i 0 < g.count
       below zero l = b
       below (suc i) l = absurd (omega arith)
 
-  pub Walk·cons : {u v : ℕ} {w : List ℕ} → u < g.count → T (is_arc g u v) → Walk g (v ∷ w) → Walk g (u ∷ v ∷ w)
-  Walk·cons {u} {v} {w} b a h = record { nonempty = omega arith; below = below; arcs = arcs }
+  pub Walk-cons : {u v : ℕ} {w : List ℕ} → u < g.count → T (is_arc g u v) → Walk g (v ∷ w) → Walk g (u ∷ v ∷ w)
+  Walk-cons {u} {v} {w} b a h = record { nonempty = omega arith; below = below; arcs = arcs }
     where
       below : (i : ℕ) → i < length (u ∷ v ∷ w) → get_or (u ∷ v ∷ w) i 0 < g.count
       below zero l = b
@@ -53,16 +53,16 @@ module _ {g : Graph} where
       arcs zero l = a
       arcs (suc i) l = h.arcs i (omega arith)
 
-  pub Walk·tail : {u v : ℕ} {w : List ℕ} → Walk g (u ∷ v ∷ w) → Walk g (v ∷ w)
-  Walk·tail h = record { nonempty = omega arith; below = λ i l. h.below (suc i) (omega arith); arcs = λ i l. h.arcs (suc i) (omega arith) }
+  pub Walk-tail : {u v : ℕ} {w : List ℕ} → Walk g (u ∷ v ∷ w) → Walk g (v ∷ w)
+  Walk-tail h = record { nonempty = omega arith; below = λ i l. h.below (suc i) (omega arith); arcs = λ i l. h.arcs (suc i) (omega arith) }
 
   pub is_walk→Walk : (w : List ℕ) → T (is_walk g w) → Walk g w
   is_walk→Walk [] t = absurd t
   is_walk→Walk (u ∷ c) t = from u c t
     where
       from : (u : ℕ) (c : List ℕ) → T (is_walk g (u ∷ c)) → Walk g (u ∷ c)
-      from u [] t = Walk·single (ltb→lt u g.count (search conj))
-      from u (v ∷ c) t = Walk·cons (ltb→lt u g.count (search conj)) (search conj) (from v c (search conj))
+      from u [] t = Walk-single (ltb→lt u g.count (search conj))
+      from u (v ∷ c) t = Walk-cons (ltb→lt u g.count (search conj)) (search conj) (from v c (search conj))
 
   pub Walk→is_walk : (w : List ℕ) → Walk g w → T (is_walk g w)
   Walk→is_walk [] h = absurd (omega (arith, h.nonempty))
@@ -70,7 +70,7 @@ module _ {g : Graph} where
     where
       from : (u : ℕ) (c : List ℕ) → Walk g (u ∷ c) → T (is_walk g (u ∷ c))
       from u [] h = and_i (ltb u g.count) true (lt→ltb u g.count (h.below 0 (omega arith))) tt
-      from u (v ∷ c) h = search (conj, lt→ltb u g.count (h.below 0 (omega arith)), h.arcs 0 (omega arith), from v c (Walk·tail h))
+      from u (v ∷ c) h = search (conj, lt→ltb u g.count (h.below 0 (omega arith)), h.arcs 0 (omega arith), from v c (Walk-tail h))
 
   pub hops-length : (w : List ℕ) → Walk g w → suc (hops w) ≡ length w
   hops-length [] h = absurd (omega (arith, h.nonempty))

@@ -1,7 +1,7 @@
 -- `search::search_in` meets its contract. Assumes nothing.
 use mathlib.Core.Path.{sym}
 use lib.Seq.{length-take-le}
-use Rattle.walks.specs.Avoid.{Avoids·single}
+use Rattle.walks.specs.Avoid.{Avoids-single}
 use borrow.Author.Rules.{rules}
 use Rattle.search.proofs.search_in.Statement.{statement}
 use Rattle.search.proofs.search_in.Tie as tie
@@ -61,7 +61,7 @@ same-length-11 c = c.measure-states.auto.table
 returns : tie.Need-returns
 returns c g F count-is weighed spells bounded =
     let s = start_of c.before.before.before.before.before.before.before.before.before.before.before.before.before.before.before.before.before.before.before.before.before.before.before.before in
-    c.least_walk.ensures g F s.args.end (c.measure-states.ensures.1 g F count-is weighed spells bounded) (Avoids·single bounded.long s.args.start)
+    c.least_walk.ensures g F s.args.end (c.measure-states.ensures.1 g F count-is weighed spells bounded) (Avoids-single bounded.long s.args.start)
 
 pub search_in_spec : {M : Type 1} → statement M
 search_in_spec =

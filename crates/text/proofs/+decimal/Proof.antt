@@ -5,7 +5,7 @@ use mathlib.Core.List.{◌∷◌, []}
 use native.Mathlib.Omega.{arith}
 use Prim.Native.Nat.{ℕ, ◌+◌, ◌/◌, ◌%◌, ◌≤◌, ◌<◌}
 use lib.ListN.{length, length-append}
-use Rattle.text.specs.Text.{decimal as Text·decimal}
+use Rattle.text.specs.Text.{decimal as Text-decimal}
 use Rattle.text.specs.TextLaws.{decimal_digit, decimal-next}
 use Rattle.text.specs.Writing.{wrote_as, wrote-byte, wrote_then}
 use borrow.Fn.Kinds.{In}
@@ -17,10 +17,10 @@ use Rattle.text.proofs.+decimal.{statement}
 use Rattle.text.proofs.+decimal.Tie.{close}
 
 -- what is left of the room for the digits before the last
-shorter : (n at room : ℕ) → 10 ≤ n → at + length (Text·decimal n) ≤ room
-    → (at + length (Text·decimal (n / 10)) ≤ room) × (at + length (Text·decimal (n / 10)) < room)
+shorter : (n at room : ℕ) → 10 ≤ n → at + length (Text-decimal n) ≤ room
+    → (at + length (Text-decimal (n / 10)) ≤ room) × (at + length (Text-decimal (n / 10)) < room)
 shorter n at room ten h =
-    let size : length (Text·decimal n) ≡ length (Text·decimal (n / 10)) + 1 = ap length (decimal-next n ten) ∙ length-append (Text·decimal (n / 10)) ((48 + n % 10) ∷ []) in
+    let size : length (Text-decimal n) ≡ length (Text-decimal (n / 10)) + 1 = ap length (decimal-next n ten) ∙ length-append (Text-decimal (n / 10)) ((48 + n % 10) ∷ []) in
     (omega arith, omega arith)
 
 abbrev μ-decimal : Measures 1 decimal-kinds.ps ℕ
