@@ -45,8 +45,8 @@ rows-requires c κs =
       paths = g.paths;
       level = c.loop-level.level;
       turns = c.args.count;
-      latests = children.new.1.1.1.1.1.1.0;
-      current = children.new.1.1.1.1.1.1.1.1.0;
+      latests = children.new.latest;
+      current = children.new.current;
       taken = omega (arith, g.spells.paths);
       so_far = children.ensures g.paths c.args.vertices g.spells (c.loop-level.invariant.6 g.paths g.spells g.bounded);
     }

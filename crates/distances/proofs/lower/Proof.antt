@@ -9,6 +9,7 @@ use Rattle.distances.specs.Columns.{edge_at, edge-at-mem}
 use Rattle.distances.specs.Chain.{last, last_le}
 use Rattle.distances.proofs.Lowering.{Lowering, lowering_none, lowering_all, lowering_lower, lowering_keep}
 use Rattle.distances.proofs.lower.Statement.{statement}
+use Rattle.distances.proofs.lower.Lts.{then-reach-table, else-reach-table}
 use Rattle.distances.proofs.lower.Tie as tie
 
 abbrev invariant-loop : tie.invariant-loop-i
@@ -105,8 +106,10 @@ loop-again c =
     let l = c.loop-i in
     let i : l.i ≡ suc (l.i - 1) = omega arith in
     let here = subst (λ k. Lowering c.args.tails.now c.args.heads.now c.args.costs.now c.args.table.now c.args.h k l.table) i l.invariant in
-    rw (chained c.before.before.before.before.before) (⊎_elim (λ w. rw w.1 (lowering_lower _ _ _ _ _ c.requires.0 (l.i - 1) here w.0.taken))
-    (λ w. rw w.1 (lowering_keep _ _ _ _ _ c.requires.0 (l.i - 1) here w.0.left)) c.if-reach-table.branch)
+    rw (chained c.before.before.before.before.before) (elim c.if-reach-table.branch [
+      then-reach-table w ↦ rw w.table-is (lowering_lower _ _ _ _ _ c.requires.0 (l.i - 1) here w.if-reach-table.true)
+    | else-reach-table w ↦ rw w.table-is (lowering_keep _ _ _ _ _ c.requires.0 (l.i - 1) here w.if-reach-table.false)
+    ])
 
 same_length : tie.Need-shape_of-table invariant-loop decreases-loop
 same_length c = omega arith

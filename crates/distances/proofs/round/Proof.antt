@@ -8,6 +8,7 @@ use Rattle.distances.specs.Edge.{edges}
 use Rattle.distances.specs.Ready.{ready_lower}
 use Rattle.distances.proofs.Rounding.{Rounding, rounding_none, rounding_take, rounding_skip, rounding_all}
 use Rattle.distances.proofs.round.Statement.{statement}
+use Rattle.distances.proofs.round.Lts.{then-d-seen, else-d-seen}
 use Rattle.distances.proofs.round.Tie as tie
 
 abbrev invariant-loop : tie.invariant-loop-h
@@ -52,7 +53,10 @@ loop-less c = omega arith
 loop-again : tie.Need-loop-h-preserved invariant-loop decreases-loop
 loop-again c =
     let l = c.loop-h in
-    ⊎_elim (λ w. (omega arith, rw (w.5, w.6, w.7) (rounding_take _ _ _ l.invariant.1 w.0.taken w.2.ensures))) (λ w. (omega arith, rw (w.1, w.2, w.3) (rounding_skip _ _ _ l.invariant.1 w.0.left))) c.if-d-seen.branch
+    elim c.if-d-seen.branch [
+      then-d-seen w ↦ (omega arith, rw (w.table-is, w.seen-is, w.taken-is) (rounding_take _ _ _ l.invariant.1 w.if-d-seen.true w.lower.ensures))
+    | else-d-seen w ↦ (omega arith, rw (w.table-is, w.seen-is, w.taken-is) (rounding_skip _ _ _ l.invariant.1 w.if-d-seen.false))
+    ]
 
 same_length : tie.Need-shape_of-table invariant-loop decreases-loop
 same_length c = omega arith

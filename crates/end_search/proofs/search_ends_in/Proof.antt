@@ -9,9 +9,6 @@ use borrow.Author.Rules.{rules}
 use Rattle.end_search.proofs.search_ends_in.Statement.{statement}
 use Rattle.end_search.proofs.search_ends_in.Tie as tie
 
-abbrev start_of : tie.After-measure-states → tie.Start
-start_of c = c.before.before.before.before.before.before.before.before.before.before.before.before.before.before.before.before.before.before.before.before.before.before.before
-
 measure-requires : tie.Need-measure-states-requires
 measure-requires c κs = (c.requires.0, (c.requires.1.0, c.requires.1.1.1))
 
@@ -23,10 +20,9 @@ slice-aggregate-fill-ends c = sym (length-take-le _ _ c.measure-states.ensures.0
 
 fill-ends-requires : tie.Need-fill_ends-requires
 fill-ends-requires c κs =
-    let s = start_of c.before.before.before.before.before.before.before.before.before.before.before.before.before.before.before.before.before.before.before.before.before in
-    let given = s.pre.0 in
-    let (g, count-is, weighed) = s.pre.1.0 in
-    (measured_standing (c.measure-states.ensures.1 g given.paths count-is weighed given.spells given.bounded), s.pre.1.1.0.1)
+    let given = c.requires.0 in
+    let (g, count-is, weighed) = c.requires.1.0 in
+    (measured_standing (c.measure-states.ensures.1 g given.paths count-is weighed given.spells given.bounded), c.requires.1.1.0.1)
 
 same_length : tie.Need-shape_of-table
 same_length c = c.fill_ends.auto.ends
@@ -63,9 +59,8 @@ same-length-11 c = c.measure-states.auto.table
 
 returns : tie.Need-returns
 returns c g F count-is weighed spells bounded =
-    let s = start_of c.before.before.before.before.before.before.before.before.before.before.before.before.before.before.before.before.before.before.before.before.before.before.before.before in
     c.fill_ends.ensures
-    ∙ ap (λ l. l ++ drop (2 * s.args.vertices) s.args.table.now) (measured_ends (c.measure-states.ensures.1 g F count-is weighed spells bounded) bounded s.pre.1.1.0.0)
+    ∙ ap (λ l. l ++ drop (2 * c.args.vertices) c.args.table.now) (measured_ends (c.measure-states.ensures.1 g F count-is weighed spells bounded) bounded c.requires.1.1.0.0)
 
 pub search_ends_in_spec : {M : Type 1} → statement M
 search_ends_in_spec =

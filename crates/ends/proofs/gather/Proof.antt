@@ -10,6 +10,7 @@ use Rattle.distances.specs.Table.{at}
 use Rattle.ends.specs.Least.{Gathered}
 use Rattle.ends.proofs.Gathering.{gathered_none, gathered_lower, gathered_keep}
 use Rattle.ends.proofs.gather.Statement.{statement}
+use Rattle.ends.proofs.gather.Lts.{then-is_less, else-is_less}
 use Rattle.ends.proofs.gather.Tie as tie
 
 abbrev invariant-loop : tie.invariant-loop-q
@@ -61,10 +62,10 @@ loop-again : tie.Need-loop-q-preserved invariant-loop decreases-loop
 loop-again c =
     let l = c.loop-q in
     let less = c.is_less.ensures in
-    ⊎_elim
-    (λ w. (omega arith, rw w.1 (gathered_lower _ _ l.q l.invariant.1 (below c.before.before.before.before.before.before) (ltb-true _ _ (sym less ∙ w.0.taken)))))
-    (λ w. (omega arith, rw w.1 (gathered_keep _ _ l.q l.invariant.1 (below c.before.before.before.before.before.before) (ltb-false _ _ (sym less ∙ w.0.left)))))
-    c.if-is_less.branch
+    elim c.if-is_less.branch [
+      then-is_less w ↦ (omega arith, rw w.least-is (gathered_lower _ _ l.q l.invariant.1 (below c.before.before.before.before.before.before) (ltb-true _ _ (sym less ∙ w.if-is_less.true))))
+    | else-is_less w ↦ (omega arith, rw w.least-is (gathered_keep _ _ l.q l.invariant.1 (below c.before.before.before.before.before.before) (ltb-false _ _ (sym less ∙ w.if-is_less.false))))
+    ]
 
 returns : tie.Need-returns invariant-loop decreases-loop
 returns c =

@@ -10,6 +10,7 @@ use Rattle.distances.specs.Table.{at, inf}
 use Rattle.ends.specs.Least.{told}
 use Rattle.ends.proofs.Telling.{Telling, telling_none, telling_length, telling_next}
 use Rattle.ends.proofs.tell.Statement.{statement}
+use Rattle.ends.proofs.tell.Lts.{then-d-lt-INF, else-d-lt-INF}
 use Rattle.ends.proofs.tell.Tie as tie
 
 abbrev invariant-loop : tie.invariant-loop-v
@@ -75,7 +76,10 @@ loop-less c = omega arith
 loop-again : tie.Need-loop-v-preserved invariant-loop decreases-loop
 loop-again c =
     let d = at c.args.least.now c.loop-v.v in
-    let told_is : c.if-d-lt-INF.weight ∷ c.if-d-lt-INF.hops ∷ [] ≡ told d = ⊎_elim (λ w. rw (w.1, w.2, lt-ltb d inf w.0.taken)) (λ w. rw (w.1, w.2, le-ltb d inf w.0.left)) c.if-d-lt-INF.branch in
+    let told_is : c.if-d-lt-INF.weight ∷ c.if-d-lt-INF.hops ∷ [] ≡ told d = elim c.if-d-lt-INF.branch [
+      then-d-lt-INF w ↦ rw (w.weight-is, w.hops-is, lt-ltb d inf w.if-d-lt-INF.true)
+    | else-d-lt-INF w ↦ rw (w.weight-is, w.hops-is, le-ltb d inf w.if-d-lt-INF.false)
+    ] in
     (omega arith, telling_next _ _ c.loop-v.invariant.1 c.if-d-lt-INF.weight c.if-d-lt-INF.hops told_is (omega arith))
 
 same_length : tie.Need-shape_of-ends invariant-loop decreases-loop

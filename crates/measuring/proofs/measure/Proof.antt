@@ -14,52 +14,42 @@ use borrow.Author.Rules.{rules}
 use Rattle.measuring.proofs.measure.Statement.{statement}
 use Rattle.measuring.proofs.measure.Tie as tie
 
-abbrev start_of : tie.After-build-states → tie.Start
-start_of c = c.before.before.before.before.before.before.before.before.before.before.before.before.before.before.before.before
-
 -- the tables that were built
 built : (c : tie.After-build-states)
-    → let start = start_of c in
-    Built start.requires.0.paths start.args.vertices c.build-states.result c.build-states.new.steps c.build-states.new.blocked c.build-states.new.latest
-built c = let g = (start_of c).requires.0 in c.build-states.ensures g.paths g.spells g.bounded
+    → Built c.requires.0.paths c.args.vertices c.build-states.result c.build-states.new.steps c.build-states.new.blocked c.build-states.new.latest
+built c = let g = c.requires.0 in c.build-states.ensures g.paths g.spells g.bounded
 
 -- the distances that were worked out
 abbrev build-of : tie.After-distances → tie.After-build-states
-build-of c = c.before.before.before.before.before.before.before.before.before.before.before.before.before.before.before.before.before.before.before
+build-of c = c.before.before.before.before.before.before.before.before.before.before.before.before.before.before.before.before
 
 abbrev distances : tie.After-distances → List ℕ
 distances c = c.distances.new.table
 
 measured : (c : tie.After-distances)
-    → let b = build-of c in
-    let a = (start_of b).args in
+    → let a = c.args in
     (g : Graph) (F : List (List ℕ)) → g.count ≡ a.vertices → Weights g a.weights.now → Spells a.paths.now a.count F → Bounded a.vertices F
-    → Measured a.towards g F a.vertices a.vertex a.weights.now b.build.last.1.1.1.0 b.build.last.1.1.1.1.0 b.build.last.1.1.1.1.1.0 (take b.build.result (distances c ++ drop b.build.result a.table.now))
+    → Measured a.towards g F a.vertices a.vertex a.weights.now c.build-states.new.steps c.build-states.new.blocked c.build-states.new.latest (take c.build-states.result (distances c ++ drop c.build-states.result a.table.now))
 measured c g F count-is weighed spells bounded =
-    let b = build-of c in
-    let s = start_of b in
-    back_measured spells (b.build.ensures F spells bounded) s.args.table.now s.pre.1.1.entries (distances c) c.distances.auto.table count-is weighed s.args.towards s.args.vertex c.distances.ensures
+    back_measured spells (c.build-states.ensures F spells bounded) c.args.table.now c.requires.1.1.entries (distances c) c.distances.auto.table count-is weighed c.args.towards c.args.vertex c.distances.ensures
 
 build-requires : tie.Need-build-states-requires
 build-requires c κs = search rules
 
 slice-relend-prefix-distances : tie.Need-slice_bounds-distances-end
 slice-relend-prefix-distances c =
-    let s = start_of c.before.before.before.before.before.before.before.before.before.before.before.before.before.before in
-    omega (arith, built-counted s.pre.0.spells (built c.before.before.before.before.before.before.before.before.before.before.before.before.before.before), s.pre.1.1.entries)
+    omega (arith, built-counted c.requires.0.spells (built c.before.before.before.before.before.before.before.before.before.before.before.before.before.before), c.requires.1.1.entries)
 
 slice-aggregate-distances : tie.Need-slice_bounds-distances-end-2
 slice-aggregate-distances c =
-    let s = start_of c.before.before.before.before.before.before.before.before.before.before.before.before.before.before.before in
-    sym (front_length s.pre.0.spells (built c.before.before.before.before.before.before.before.before.before.before.before.before.before.before.before) s.args.table.now s.pre.1.1.entries)
+    sym (front_length c.requires.0.spells (built c.before.before.before.before.before.before.before.before.before.before.before.before.before.before.before) c.args.table.now c.requires.1.1.entries)
 
 distances-requires : tie.Need-distances-requires
 distances-requires c κs =
-    let s = start_of c.before.before.before.before.before.before.before.before.before.before.before.before.before.before.before in
-    let spells = s.pre.0.spells in
-    let (g, count-is, weighed) = s.pre.1.0 in
-    let p = front-prepared spells (built c.before.before.before.before.before.before.before.before.before.before.before.before.before.before.before) s.args.table.now s.pre.1.1.entries count-is weighed in
-    (prepared-fits p, (p.built.few, front-edges spells (built c.before.before.before.before.before.before.before.before.before.before.before.before.before.before.before) s.args.table.now s.pre.1.1.entries s.pre.1.1.edges c.build-states.auto.fail))
+    let spells = c.requires.0.spells in
+    let (g, count-is, weighed) = c.requires.1.0 in
+    let p = front-prepared spells (built c.before.before.before.before.before.before.before.before.before.before.before.before.before.before.before) c.args.table.now c.requires.1.1.entries count-is weighed in
+    (prepared-fits p, (p.built.few, front-edges spells (built c.before.before.before.before.before.before.before.before.before.before.before.before.before.before.before) c.args.table.now c.requires.1.1.entries c.requires.1.1.edges c.build-states.auto.fail))
 
 same_length : tie.Need-shape_of-steps
 same_length c = c.build-states.auto.steps
@@ -90,16 +80,12 @@ same-length-9 c = c.distances.auto.seen
 
 same-length-10 : tie.Need-shape_of-table
 same-length-10 c =
-    let b = build-of c.before.before.before.before.before.before.before.before.before.before.before.before.before.before in
-    let s = start_of b in
-    back-length s.pre.0.spells (built b) s.args.table.now s.pre.1.1.entries (distances c.before.before.before.before.before.before.before.before.before.before.before.before.before.before) c.distances.auto.table
+    back-length c.requires.0.spells (built (build-of c.before.before.before.before.before.before.before.before.before.before.before.before.before.before)) c.args.table.now c.requires.1.1.entries (distances c.before.before.before.before.before.before.before.before.before.before.before.before.before.before) c.distances.auto.table
 
 returns : tie.Need-returns
 returns c =
-    let b = build-of c.before.before.before.before.before.before.before.before.before.before.before.before.before.before in
-    let s = start_of b in
-    let spells = s.pre.0.spells in
-    (omega (arith, built-counted spells (built b), s.pre.1.1.entries, back-length spells (built b) s.args.table.now s.pre.1.1.entries (distances c.before.before.before.before.before.before.before.before.before.before.before.before.before.before) c.distances.auto.table), measured c.before.before.before.before.before.before.before.before.before.before.before.before.before.before)
+    let spells = c.requires.0.spells in
+    (omega (arith, built-counted spells (built (build-of c.before.before.before.before.before.before.before.before.before.before.before.before.before.before)), c.requires.1.1.entries, back-length spells (built (build-of c.before.before.before.before.before.before.before.before.before.before.before.before.before.before)) c.args.table.now c.requires.1.1.entries (distances c.before.before.before.before.before.before.before.before.before.before.before.before.before.before) c.distances.auto.table), measured c.before.before.before.before.before.before.before.before.before.before.before.before.before.before)
 
 pub measure_spec : {M : Type 1} → statement M
 measure_spec =

@@ -9,6 +9,7 @@ use Rattle.distances.specs.Table.{inf}
 use Rattle.product.specs.Base.{base}
 use Rattle.product.proofs.Looping.{next-counted, next-other, base_done, base-none}
 use Rattle.product.proofs.base.Statement.{statement}
+use Rattle.product.proofs.base.Lts.{then-place-vertex, else-place-vertex}
 use Rattle.product.proofs.base.Tie as tie
 
 abbrev invariant-loop : tie.invariant-loop-q
@@ -45,10 +46,10 @@ loop-less c = omega arith
 loop-again : tie.Need-loop-q-preserved invariant-loop decreases-loop
 loop-again c =
     let a = c.args in
-    ⊎_elim
-    (λ w. (omega arith, w.1 ∙ next-counted a.towards a.latest.now a.vertex a.table.now c.loop-q.q (omega arith) c.loop-q.invariant.1 (sym c.place.ensures ∙ w.0.taken), ap length w.1 ∙ length-set c.loop-q.table c.loop-q.q 0 ∙ c.loop-q.invariant.2))
-    (λ w. (omega arith, w.1 ∙ next-other a.towards a.latest.now a.vertex a.table.now c.loop-q.q (omega arith) c.loop-q.invariant.1 (λ e. w.0.left (c.place.ensures ∙ e)), ap length w.1 ∙ length-set c.loop-q.table c.loop-q.q inf ∙ c.loop-q.invariant.2))
-    c.if-place-vertex.branch
+    elim c.if-place-vertex.branch [
+      then-place-vertex w ↦ (omega arith, w.table-is ∙ next-counted a.towards a.latest.now a.vertex a.table.now c.loop-q.q (omega arith) c.loop-q.invariant.1 (sym c.place.ensures ∙ w.if-place-vertex.true), ap length w.table-is ∙ length-set c.loop-q.table c.loop-q.q 0 ∙ c.loop-q.invariant.2)
+    | else-place-vertex w ↦ (omega arith, w.table-is ∙ next-other a.towards a.latest.now a.vertex a.table.now c.loop-q.q (omega arith) c.loop-q.invariant.1 (λ e. w.if-place-vertex.false (c.place.ensures ∙ e)), ap length w.table-is ∙ length-set c.loop-q.table c.loop-q.q inf ∙ c.loop-q.invariant.2)
+    ]
 
 same_length : tie.Need-shape_of-table invariant-loop decreases-loop
 same_length c = omega arith

@@ -7,6 +7,7 @@ use Rattle.limits.specs.Limits.{heaviest}
 use Rattle.product.specs.Product.{arc_at, is_open}
 use Rattle.product.proofs.Filling.{Filling, filling_none, filling_open, filling_shut, open_test}
 use Rattle.product.proofs.edges_from.Statement.{statement}
+use Rattle.product.proofs.edges_from.Lts.{then-is_open, else-is_open}
 use Rattle.product.proofs.edges_from.Tie as tie
 
 abbrev invariant-loop : tie.invariant-loop-v
@@ -110,10 +111,10 @@ loop-less c = omega arith
 
 loop-again : tie.Need-loop-v-preserved invariant-loop decreases-loop
 loop-again c =
-    ⊎_elim
-    (λ w. (omega arith, rw (w.2, w.3, w.4, w.5) (filling_open _ _ _ _ _ _ _ _ _ c.loop-v.invariant.1 (sym (opened c.before) ∙ w.0.taken) (omega arith) (omega arith) (omega arith))))
-    (λ w. (omega arith, rw (w.1, w.2, w.3, w.4) (filling_shut _ _ _ _ _ _ _ _ _ c.loop-v.invariant.1 (sym (opened c.before) ∙ w.0.left))))
-    c.if-is_open.branch
+    elim c.if-is_open.branch [
+      then-is_open w ↦ (omega arith, rw (w.tails-is, w.heads-is, w.costs-is, w.k-is) (filling_open _ _ _ _ _ _ _ _ _ c.loop-v.invariant.1 (sym (opened c.before) ∙ w.if-is_open.true) (omega arith) (omega arith) (omega arith)))
+    | else-is_open w ↦ (omega arith, rw (w.tails-is, w.heads-is, w.costs-is, w.k-is) (filling_shut _ _ _ _ _ _ _ _ _ c.loop-v.invariant.1 (sym (opened c.before) ∙ w.if-is_open.false)))
+    ]
 
 same_length : tie.Need-shape_of-tails invariant-loop decreases-loop
 same_length c = omega arith

@@ -11,6 +11,7 @@ use Rattle.routes.specs.Route.{is_usable}
 use Rattle.product.proofs.Filling.{open_test}
 use Rattle.routes.proofs.Choosing.{Choosing, choosing_none, choosing_in, choosing_out, chosen-fits, usable-yes, usable_dear, usable_shut}
 use Rattle.routes.proofs.usable.Statement.{statement}
+use Rattle.routes.proofs.usable.Lts.{then-is_open+then-table-r, then-is_open+else-table-r, else-is_open}
 use Rattle.routes.proofs.usable.Tie as tie
 
 abbrev invariant-loop : tie.invariant-loop-v
@@ -129,12 +130,11 @@ loop-less c = omega arith
 loop-again : tie.Need-loop-v-preserved invariant-loop decreases-loop
 loop-again c =
     let a = c.args in
-    ⊎_elim
-    (λ w. (omega arith, rw w.4 (choosing_in c.loop-v.invariant.1 (omega arith) (usable-yes a.weights.now a.steps.now a.blocked.now a.latest.now a.table.now a.q c.loop-v.v (sym (opened c.before) ∙ w.0.taken) w.3.taken))))
-    (⊎_elim
-    (λ w. (omega arith, rw w.4 (choosing_out c.loop-v.invariant.1 (usable_dear a.weights.now a.steps.now a.blocked.now a.latest.now a.table.now a.q c.loop-v.v (sym (opened c.before) ∙ w.0.taken) w.3.left))))
-    (λ w. (omega arith, rw w.1 (choosing_out c.loop-v.invariant.1 (usable_shut a.weights.now a.steps.now a.blocked.now a.latest.now a.table.now a.q c.loop-v.v (sym (opened c.before) ∙ w.0.left))))))
-    c.if-is_open.branch
+    elim c.if-is_open.branch [
+      then-is_open+then-table-r w ↦ (omega arith, rw w.word-is (choosing_in c.loop-v.invariant.1 (omega arith) (usable-yes a.weights.now a.steps.now a.blocked.now a.latest.now a.table.now a.q c.loop-v.v (sym (opened c.before) ∙ w.if-is_open.true) w.if-table-r.true)))
+    | then-is_open+else-table-r w ↦ (omega arith, rw w.word-is (choosing_out c.loop-v.invariant.1 (usable_dear a.weights.now a.steps.now a.blocked.now a.latest.now a.table.now a.q c.loop-v.v (sym (opened c.before) ∙ w.if-is_open.true) w.if-table-r.false)))
+    | else-is_open w ↦ (omega arith, rw w.word-is (choosing_out c.loop-v.invariant.1 (usable_shut a.weights.now a.steps.now a.blocked.now a.latest.now a.table.now a.q c.loop-v.v (sym (opened c.before) ∙ w.if-is_open.false))))
+    ]
 
 returns : tie.Need-returns invariant-loop decreases-loop
 returns c =

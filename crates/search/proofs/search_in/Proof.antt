@@ -6,9 +6,6 @@ use borrow.Author.Rules.{rules}
 use Rattle.search.proofs.search_in.Statement.{statement}
 use Rattle.search.proofs.search_in.Tie as tie
 
-abbrev start_of : tie.After-measure-states → tie.Start
-start_of c = c.before.before.before.before.before.before.before.before.before.before.before.before.before.before.before.before.before.before.before.before.before.before.before
-
 measure-requires : tie.Need-measure-states-requires
 measure-requires c κs = (c.requires.0.given, (c.requires.0.weighed, c.requires.1))
 
@@ -20,10 +17,9 @@ slice-aggregate-least-walk c = sym (length-take-le _ _ c.measure-states.ensures.
 
 least-walk-requires : tie.Need-least_walk-requires
 least-walk-requires c κs =
-    let s = start_of c.before.before.before.before.before.before.before.before.before.before.before.before.before.before.before.before.before.before.before.before.before in
-    let asked = s.pre.0 in
+    let asked = c.requires.0 in
     let (g, count-is, weighed) = asked.weighed in
-    ((g, asked.given.paths, s.args.end, c.measure-states.ensures.1 g asked.given.paths count-is weighed asked.given.spells asked.given.bounded), (asked.start-below, asked.area-room))
+    ((g, asked.given.paths, c.args.end, c.measure-states.ensures.1 g asked.given.paths count-is weighed asked.given.spells asked.given.bounded), (asked.start-below, asked.area-room))
 
 same_length : tie.Need-shape_of-walk
 same_length c = c.least_walk.auto.area
@@ -60,8 +56,7 @@ same-length-11 c = c.measure-states.auto.table
 
 returns : tie.Need-returns
 returns c g F count-is weighed spells bounded =
-    let s = start_of c.before.before.before.before.before.before.before.before.before.before.before.before.before.before.before.before.before.before.before.before.before.before.before.before in
-    c.least_walk.ensures g F s.args.end (c.measure-states.ensures.1 g F count-is weighed spells bounded) (Avoids-single bounded.long s.args.start)
+    c.least_walk.ensures g F c.args.end (c.measure-states.ensures.1 g F count-is weighed spells bounded) (Avoids-single bounded.long c.args.start)
 
 pub search_in_spec : {M : Type 1} → statement M
 search_in_spec =
