@@ -30,7 +30,7 @@ started : (c : tie.In-Record invariant-loop decreases-loop)
 started c =
     let a = c.args in
     let begin = c.begin-begun in
-    replayed-begin a.bytes.now a.flags a.start a.end a.reports.now a.paths.now a.walk.now (answering begin.result begin.new.1.1.1.1.0 begin.new.1.1.1.1.1.0) _ begin.ensures c.in-Record.is
+    replayed-begin a.bytes.now a.flags a.start a.end a.reports.now a.paths.now a.walk.now (answering begin.result begin.new.paths begin.new.walk) _ begin.ensures c.in-Record.is
 
 -- some reports have been made
 at-loop : (c : tie.At-loop-at invariant-loop decreases-loop)
@@ -44,12 +44,12 @@ after-report : (c : tie.After-record_of-rec invariant-loop decreases-loop)
     let make = c.make-made in
     (P W : List ℕ)
     → Replayed a.bytes.now a.flags a.start a.end a.reports.now P W (answering c.in-Record.first c.begin-begun.new.paths c.begin-begun.new.walk) 0
-    → Replayed a.bytes.now a.flags a.start a.end a.reports.now P W (answering (record_in c.in-Report.reported) make.new.1.1.1.1.0 make.new.1.1.1.1.1.0) c.in-Report.next
+    → Replayed a.bytes.now a.flags a.start a.end a.reports.now P W (answering (record_in c.in-Report.reported) make.new.paths make.new.walk) c.in-Report.next
     × (c.in-Report.next ≡ c.loop-at.at + size_of (drop c.loop-at.at a.reports.now))
 after-report c P W h =
     let a = c.args in
     let make = c.make-made in
-    replayed-made a.bytes.now a.flags a.start a.end a.reports.now P W (c.loop-at.invariant.0 P W h) (answering make.result make.new.1.1.1.1.0 make.new.1.1.1.1.1.0) make.ensures _ _ c.in-Report.is
+    replayed-made a.bytes.now a.flags a.start a.end a.reports.now P W (c.loop-at.invariant.0 P W h) (answering make.result make.new.paths make.new.walk) make.ensures _ _ c.in-Report.is
 
 begin-requires : tie.Need-begin-begun-requires invariant-loop decreases-loop
 begin-requires c κs = search rules
@@ -70,7 +70,7 @@ returns : tie.Need-returns-in_default invariant-loop decreases-loop
 returns c =
     let a = c.args in
     let begin = c.begin-begun in
-    not-begun a.bytes.now a.flags a.start a.end a.reports.now a.paths.now a.walk.now (answering begin.result begin.new.1.1.1.1.0 begin.new.1.1.1.1.1.0) _ begin.ensures c.in_default.is
+    not-begun a.bytes.now a.flags a.start a.end a.reports.now a.paths.now a.walk.now (answering begin.result begin.new.paths begin.new.walk) _ begin.ensures c.in_default.is
 
 loop-holds : tie.Need-loop-at-init invariant-loop decreases-loop
 loop-holds c =
@@ -95,7 +95,7 @@ returns-2 : tie.Need-returns-in_default-made invariant-loop decreases-loop
 returns-2 c =
     let a = c.args in
     let make = c.make-made in
-    replayed-last a.bytes.now a.flags a.start a.end a.reports.now a.paths.now a.walk.now (at-loop c.before.before.before.before.before.before.before.before.before) (answering make.result make.new.1.1.1.1.0 make.new.1.1.1.1.1.0) make.ensures c.in_default-made.is
+    replayed-last a.bytes.now a.flags a.start a.end a.reports.now a.paths.now a.walk.now (at-loop c.before.before.before.before.before.before.before.before.before) (answering make.result make.new.paths make.new.walk) make.ensures c.in_default-made.is
 
 record-of-requires : tie.Need-record_of-rec-requires invariant-loop decreases-loop
 record-of-requires c κs = search rules

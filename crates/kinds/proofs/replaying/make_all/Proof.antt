@@ -26,15 +26,14 @@ after-report : (c : tie.After-record_of-rec invariant-loop decreases-loop)
     → let a = c.args in
     let loop = c.loop-at in
     let make = c.make-made in
-    let made = c.made.given.0 in
-    (reports_on a.bytes.now (answering (record_in made.0) make.new.1.1.1.1.0 make.new.1.1.1.1.1.0) (reports_of (drop made.1.0 a.reports.now))
+    (reports_on a.bytes.now (answering (record_in c.in-Report.reported) make.new.paths make.new.walk) (reports_of (drop c.in-Report.next a.reports.now))
     ≡ reports_on a.bytes.now (answering loop.rec loop.paths loop.walk) (reports_of (drop loop.at a.reports.now)))
-    × (loop.at < made.1.0)
+    × (loop.at < c.in-Report.next)
 after-report c =
     let a = c.args in
     let loop = c.loop-at in
     let make = c.make-made in
-    made-next a.bytes.now (answering loop.rec loop.paths loop.walk) a.reports.now loop.at (answering make.result make.new.1.1.1.1.0 make.new.1.1.1.1.1.0) make.ensures _ _ c.in-Report.is
+    made-next a.bytes.now (answering loop.rec loop.paths loop.walk) a.reports.now loop.at (answering make.result make.new.paths make.new.walk) make.ensures _ _ c.in-Report.is
 
 loop-holds : tie.Need-loop-at-init invariant-loop decreases-loop
 loop-holds c = (refl, refl, refl)
@@ -59,7 +58,7 @@ returns c =
     let a = c.args in
     let loop = c.loop-at in
     let make = c.make-made in
-    made-last a.bytes.now (answering loop.rec loop.paths loop.walk) a.reports.now loop.at (answering make.result make.new.1.1.1.1.0 make.new.1.1.1.1.1.0) make.ensures c.in_default.is
+    made-last a.bytes.now (answering loop.rec loop.paths loop.walk) a.reports.now loop.at (answering make.result make.new.paths make.new.walk) make.ensures c.in_default.is
     ∙ loop.invariant.0
 
 print-reported-requires : tie.Need-print_reported-requires invariant-loop decreases-loop
@@ -78,7 +77,7 @@ loop-again c =
     let loop = c.loop-at in
     let next = after-report c in (
       ap
-          (λ (r : Record). reports_on a.bytes.now (answering r make.new.1.1.1.1.0 make.new.1.1.1.1.1.0) (reports_of (drop c.in-Report.next a.reports.now)))
+          (λ (r : Record). reports_on a.bytes.now (answering r make.new.paths make.new.walk) (reports_of (drop c.in-Report.next a.reports.now)))
           c.record_of-rec.ensures ∙ next.0 ∙ loop.invariant.0,
       omega (arith, loop.invariant.1),
       omega (arith, loop.invariant.2),

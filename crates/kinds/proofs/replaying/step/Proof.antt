@@ -36,8 +36,8 @@ returns : tie.Need-returns-in-Refused
 returns c =
     let a = c.args in
     let begin = c.begin-begun in
-    sym (ap (λ (x : Begun). answering x begin.new.1.1.1.1.0 begin.new.1.1.1.1.1.0) c.in-Refused.is)
-    ∙ not-begun a.bytes.now a.flags a.start a.end a.reports.now a.paths.now a.walk.now (answering begin.result begin.new.1.1.1.1.0 begin.new.1.1.1.1.1.0) _ begin.ensures c.in-Refused.is
+    sym (ap (λ (x : Begun). answering x begin.new.paths begin.new.walk) c.in-Refused.is)
+    ∙ not-begun a.bytes.now a.flags a.start a.end a.reports.now a.paths.now a.walk.now (answering begin.result begin.new.paths begin.new.walk) _ begin.ensures c.in-Refused.is
 
 same-length-3 : tie.Need-shape_of-paths-in-Record
 same-length-3 c = search rules
@@ -50,8 +50,8 @@ returns-2 c =
     let a = c.args in
     let begin = c.begin-begun in
     let make-all = c.make_all in
-    stepped a.bytes.now a.flags a.start a.end a.reports.now a.paths.now a.walk.now (answering begin.result begin.new.1.1.1.1.0 begin.new.1.1.1.1.1.0) _ begin.ensures c.in-Record.is
-    (answering make-all.result make-all.new.1.1.1.0 make-all.new.1.1.1.1.0) make-all.ensures
+    stepped a.bytes.now a.flags a.start a.end a.reports.now a.paths.now a.walk.now (answering begin.result begin.new.paths begin.new.walk) _ begin.ensures c.in-Record.is
+    (answering make-all.result make-all.new.paths make-all.new.walk) make-all.ensures
 
 pub step_spec : {M : Type 1} → statement M
 step_spec =
