@@ -12,8 +12,8 @@ import sys
 
 HERE = os.path.dirname(os.path.realpath(__file__))
 WORD = re.compile(r"[\w'→◌·-]+")
-# A type and a name that a middle dot joined; Iff is mathlib's, whose name is a path.
-DOTTED = re.compile(r"(?<![\w·])(?!Iff·)([A-Z]\w*)·(?=[A-Za-z])")
+# A type and a name that a middle dot joined; Iff is mathlib's, and Rattle heads a path.
+DOTTED = re.compile(r"(?<![\w·])(?!Iff·|Rattle·)([A-Z]\w*)·(?=[A-Za-z])")
 SKIP = {"out", "target", ".git"}
 
 
