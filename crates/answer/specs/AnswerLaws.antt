@@ -3,8 +3,8 @@ use Rattle.std.specs.Prelude.{ℕ, ◌+◌, ◌≤◌, ◌<◌, ◌≡◌, refl,
 use Rattle.std.proofs.Common.{sym, ap, ap₂, subst, ◌∙◌, inl, inr, arith, length-append, take_at}
 use Rattle.std.proofs.Math.Option.{Option, none, some}
 use Rattle.walks.specs.Graph.{Graph}
-use Rattle.walks.specs.Walk.{hops-length}
-use Rattle.walks.specs.Best.{Best-unique, Best-not-None}
+use Rattle.walks.proofs.Walk.{hops-length}
+use Rattle.walks.proofs.Best.{Best-unique, Best-not-None}
 use Rattle.book.specs.declared.Refusal.{Refusal}
 use Rattle.book.specs.RefusalLaws.{Fails, Hold, first-fails, hold→none}
 use Rattle.book.specs.Book.{Book, graph}

@@ -7,8 +7,10 @@ use Rattle.std.proofs.lemmas.List.{length-map}
 use Rattle.limits.specs.Limits.{area_size, longest, most_paths}
 use Rattle.lists.specs.Test.{T→true, true→T}
 use Rattle.walks.specs.Graph.{Graph}
-use Rattle.walks.specs.Walk.{Walk, is_walk, is_walk→Walk, Walk→is_walk}
-use Rattle.walks.specs.Avoid.{Occurs, occurs, occurs→Occurs, Occurs→occurs}
+use Rattle.walks.specs.Walk.{Walk, is_walk}
+use Rattle.walks.proofs.Walk.{is_walk→Walk, Walk→is_walk}
+use Rattle.walks.specs.Avoid.{Occurs, occurs}
+use Rattle.walks.proofs.Avoid.{occurs→Occurs, Occurs→occurs}
 use Rattle.book.specs.declared.Refusal.{Refusal}
 use Rattle.book.specs.Refusal.{Test, order, in_order, refusal_by}
 use Rattle.book.specs.Book.{Book, graph, IsPath, is_path}

@@ -6,7 +6,7 @@ use mathlib.Core.List.Memᴰ
 use mathlib.Core.List.{List, [], ◌∷◌, ◌++◌, Memᴰ}
 use Rattle.std.proofs.Math.Option.{Option, none, some}
 use Rattle.lists.specs.Distinct.{distinct-length}
-use Rattle.walks.specs.Avoid.{Avoids-mono}
+use Rattle.walks.proofs.Avoid.{Avoids-mono}
 use Rattle.walks.specs.Best.{Feasible}
 use Rattle.states.specs.Chosen.{chosen}
 use Rattle.book.specs.declared.Refusal.{Refusal}

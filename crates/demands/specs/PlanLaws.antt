@@ -4,9 +4,11 @@ use Rattle.std.proofs.Common.{sym, ap, subst, subst₂, ◌∙◌, inl, inr, ari
 use Rattle.std.proofs.Math.Option.{none}
 use Rattle.limits.specs.Limits.{area_size, longest}
 use Rattle.walks.specs.Graph.{Graph}
-use Rattle.walks.specs.Walk.{Walk, weight_of, hops, hops-length}
+use Rattle.walks.specs.Walk.{Walk, weight_of, hops}
+use Rattle.walks.proofs.Walk.{hops-length}
 use Rattle.walks.specs.Avoid.{Avoids}
-use Rattle.walks.specs.Order.{Lex, ◌≼⟨◌⟩◌, ≼-weight}
+use Rattle.walks.specs.Order.{Lex, ◌≼⟨◌⟩◌}
+use Rattle.walks.proofs.Order.{≼-weight}
 use Rattle.walks.specs.Best.{Feasible}
 use Rattle.states.specs.Chosen.{Decided}
 use Rattle.book.specs.Refusal.{refusal_by}

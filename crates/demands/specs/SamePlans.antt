@@ -4,7 +4,8 @@ use Rattle.std.proofs.Common.{sym, ap, ap₂, subst, ◌∙◌, le-leb}
 use Rattle.std.proofs.Math.Option.{Option, none, some}
 use Rattle.limits.specs.Limits.{most_vertices, area_size}
 use Rattle.walks.specs.Graph.{Graph, from_arcs}
-use Rattle.walks.specs.Best.{Best-unique, Best-not-None, NoStricter, Best-same}
+use Rattle.walks.specs.Best.{NoStricter}
+use Rattle.walks.proofs.Best.{Best-unique, Best-not-None, Best-same}
 use Rattle.states.specs.Chosen.{Decided, chosen, chosen_is}
 use Rattle.book.specs.declared.Refusal.{Refusal}
 use Rattle.book.specs.Refusal.{test, refusal_by}

@@ -8,8 +8,10 @@ use Rattle.lists.specs.Test.{T_and}
 use Rattle.walks.specs.Graph.{Graph, Arc}
 use Rattle.walks.specs.Walk.{Walk}
 use Rattle.walks.specs.Avoid.{Occurs}
-use Rattle.walks.specs.Best.{Best, None, Best-same, None-same}
-use Rattle.walks.specs.Stutter.{Stutters, Loopless, stutter_never_occurs, ButStutters, but_stutters}
+use Rattle.walks.specs.Best.{Best, None}
+use Rattle.walks.proofs.Best.{Best-same, None-same}
+use Rattle.walks.specs.Stutter.{Stutters, Loopless, ButStutters}
+use Rattle.walks.proofs.Stutter.{stutter_never_occurs, but_stutters}
 use Rattle.states.specs.Chosen.{chosen}
 use Rattle.book.specs.declared.Refusal.{Refusal}
 use Rattle.book.specs.declared.Refusal.TheVariants.{NotStanding}

@@ -8,7 +8,8 @@ use mathlib.Core.List.{List, [], ◌∷◌, Memᴰ}
 use Rattle.std.proofs.Math.Option.{none, some}
 use Rattle.limits.specs.Limits.{area_size, longest}
 use Rattle.lists.specs.Test.{T→true}
-use Rattle.walks.specs.Avoid.{Occurs, occurs→Occurs, avoids→Avoids}
+use Rattle.walks.specs.Avoid.{Occurs}
+use Rattle.walks.proofs.Avoid.{occurs→Occurs, avoids→Avoids}
 use Rattle.walks.specs.Feasible.{is_feasible}
 use Rattle.walks.specs.Stutter.{Stutters}
 use Rattle.book.specs.declared.Refusal.{Refusal}

@@ -11,10 +11,12 @@ use Rattle.std.proofs.Math.Decide.{ℕ_discrete}
 use Rattle.std.proofs.Math.ListN.{length-append, get_or-append}
 use Rattle.limits.specs.Limits.{most_vertices, most_paths, heaviest, longest, longest_path}
 use Rattle.walks.specs.Graph.{Graph, arc_weight}
-use Rattle.walks.specs.Walk.{weight_of, hops, hops-length}
+use Rattle.walks.specs.Walk.{weight_of, hops}
+use Rattle.walks.proofs.Walk.{hops-length}
 use Rattle.walks.specs.Avoid.{Long}
 use Rattle.walks.specs.Weights.{Weights}
-use Rattle.walks.specs.Best.{Best, None, Best-unique, Best-not-None, Best-stay}
+use Rattle.walks.specs.Best.{Best, None}
+use Rattle.walks.proofs.Best.{Best-unique, Best-not-None, Best-stay}
 use Rattle.states.specs.Short.{best-bound, best-weight}
 use Rattle.states.specs.Chosen.{chosen, Decided, chosen_is}
 use Rattle.ends.specs.Ends.{no_end, entry_of, ends}

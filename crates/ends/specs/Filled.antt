@@ -8,7 +8,8 @@ use Prim.Native.Nat.{ℕ, zero, suc, ◌%◌, ◌<◌, ◌≤◌}
 use Rattle.std.proofs.Math.Decide.{dec_lt}
 use Rattle.limits.specs.Limits.{most_paths, longest_path}
 use Rattle.walks.specs.Graph.{Graph}
-use Rattle.walks.specs.Avoid.{Avoids, Avoids-single}
+use Rattle.walks.specs.Avoid.{Avoids}
+use Rattle.walks.proofs.Avoid.{Avoids-single}
 use Rattle.walks.specs.Weights.{Weights}
 use Rattle.distances.specs.Edge.{Edge, Within}
 use Rattle.distances.specs.Table.{at, inf, passes}

@@ -6,7 +6,8 @@ use Rattle.std.proofs.Math.Dec.{eqb_refl}
 use Rattle.std.proofs.Math.Facts.{or_yes}
 use Rattle.lists.specs.Test.{conj, any, any→some, all, all→each, all_below, all_below→each, implies, implies→}
 use Rattle.walks.specs.Graph.{Graph, is_arc, arc_weight}
-use Rattle.walks.specs.Avoid.{same, same→≡, avoids, avoids→Avoids}
+use Rattle.walks.specs.Avoid.{same, avoids}
+use Rattle.walks.proofs.Avoid.{same→≡, avoids→Avoids}
 use Rattle.walks.specs.Best.{Best, None}
 use Rattle.states.specs.States.{latest}
 use Rattle.states.specs.Automaton.{go, blocked}

@@ -6,9 +6,11 @@ use mathlib.Core.List.Memᴰ
 use Rattle.std.proofs.Math.Option.{none, some}
 use Rattle.std.proofs.lemmas.List.{length-replicate}
 use Rattle.walks.specs.Walk.{weight_of, hops}
-use Rattle.walks.specs.Avoid.{avoids→Avoids}
-use Rattle.walks.specs.Best.{Feasible, Best-mono}
-use Rattle.walks.specs.Feasible.{is_feasible, is_feasible→Feasible}
+use Rattle.walks.proofs.Avoid.{avoids→Avoids}
+use Rattle.walks.specs.Best.{Feasible}
+use Rattle.walks.proofs.Best.{Best-mono}
+use Rattle.walks.specs.Feasible.{is_feasible}
+use Rattle.walks.proofs.Feasible.{is_feasible→Feasible}
 use Rattle.book.specs.declared.Answer.TheVariants.{Read}
 use Rattle.book.specs.declared.Refusal.TheVariants.{NotStanding}
 use Rattle.book.specs.Book.{all_paths, is_path, are_vertices}

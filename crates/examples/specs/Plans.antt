@@ -3,7 +3,8 @@ use Rattle.std.specs.Prelude.{ℕ, ◌≤◌, ◌≡◌, refl, true, List, [], �
 use Rattle.std.proofs.Common.{sym, ap, subst, ◌∙◌, le-leb}
 use mathlib.Core.List.Memᴰ
 use Rattle.std.proofs.Math.Option.{none}
-use Rattle.walks.specs.Best.{None, None-mono}
+use Rattle.walks.specs.Best.{None}
+use Rattle.walks.proofs.Best.{None-mono}
 use Rattle.book.specs.Book.{Book, IsPath, WellFormed, graph}
 use Rattle.book.specs.BookLaws.{reading-is-book, all-member}
 use Rattle.examples.specs.Books.{bytes_a, book_a, book-A, bytes_ways, book_ways, book-ways, bytes_shortcut, book_shortcut, book-shortcut}

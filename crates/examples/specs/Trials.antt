@@ -6,7 +6,7 @@ use Rattle.std.proofs.Common.{sym}
 use mathlib.Core.List.Memᴰ
 use Rattle.std.proofs.Math.Option.{some}
 use native.Mathlib.Omega.{arith}
-use Rattle.walks.specs.Avoid.{occurs→Occurs}
+use Rattle.walks.proofs.Avoid.{occurs→Occurs}
 use Rattle.walks.specs.Feasible.{is_feasible}
 use Rattle.book.specs.declared.Refusal.TheVariants.{Ended, NotStanding}
 use Rattle.book.specs.Refusal.{refusal_by}

@@ -5,7 +5,8 @@ use Rattle.std.proofs.Common.{lit<}
 use Rattle.walks.specs.Graph.{Graph, from_arcs}
 use Rattle.walks.specs.Walk.{weight_of, hops}
 use Rattle.walks.specs.Avoid.{Long}
-use Rattle.walks.specs.Best.{Best, None, Best-stay}
+use Rattle.walks.specs.Best.{Best, None}
+use Rattle.walks.proofs.Best.{Best-stay}
 use Rattle.examples.specs.GraphA.{arc, book_a, forbidden_a, best_a}
 use Rattle.states.specs.Automaton.{state, go, blocked}
 use Rattle.examples.specs.Certificate.{Entry, certified-best, certified-none}

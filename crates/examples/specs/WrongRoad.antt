@@ -6,9 +6,12 @@ use Rattle.std.proofs.Common.{inl, inr, ⊎_elim, sym, ap, subst, ◌∙◌, ari
 use Rattle.std.proofs.Math.ListN.{get_or-append}
 use Rattle.std.proofs.Math.Seq.{get_or-append_seam}
 use Rattle.walks.specs.Graph.{is_some, is_arc}
-use Rattle.walks.specs.Walk.{weight_of, hops, hops-length}
-use Rattle.walks.specs.Avoid.{avoids, Avoids→avoids}
-use Rattle.walks.specs.Best.{Feasible, Best, Best-unique}
+use Rattle.walks.specs.Walk.{weight_of, hops}
+use Rattle.walks.proofs.Walk.{hops-length}
+use Rattle.walks.specs.Avoid.{avoids}
+use Rattle.walks.proofs.Avoid.{Avoids→avoids}
+use Rattle.walks.specs.Best.{Feasible, Best}
+use Rattle.walks.proofs.Best.{Best-unique}
 use Rattle.examples.specs.GraphA.{book_a, forbidden_a}
 use Rattle.examples.specs.Walks.{best-to-1, best-to-2}
 

@@ -10,7 +10,8 @@ use lib.Dec.{eqb}
 use lib.ListN.{length, get_or, drop, drop_of_length-le}
 use lib.Seq.{drop-cons}
 use Rattle.lists.specs.Test.{T→true, true→T}
-use Rattle.walks.specs.Avoid.{is_prefix, occurs, occurs-front}
+use Rattle.walks.specs.Avoid.{is_prefix, occurs}
+use Rattle.walks.proofs.Avoid.{occurs-front}
 
 and_no : (x : Bool) → x && false ≡ false
 and_no true = refl

@@ -10,7 +10,8 @@ use lib.ListN.{length, get_or}
 use Rattle.lists.specs.Test.{T→true, true→T}
 use Rattle.walks.specs.Graph.{Graph}
 use Rattle.walks.specs.Walk.{is_walk, weight_of, hops}
-use Rattle.walks.specs.Avoid.{avoids, avoids→Avoids, Avoids→avoids}
+use Rattle.walks.specs.Avoid.{avoids}
+use Rattle.walks.proofs.Avoid.{avoids→Avoids, Avoids→avoids}
 use Rattle.walks.specs.Feasible.{is_feasible}
 use Rattle.walk_check.specs.declared.Checked.TheVariants.{Clear}
 use Rattle.rules.specs.Area.{spelled, valid}

@@ -5,8 +5,9 @@ use mathlib.Core.List.{List, [], ◌∷◌, ◌++◌, Permᴰ}
 use Rattle.std.proofs.Math.Option.{Option, none, some}
 use Rattle.walks.specs.Graph.{Graph, Arc, from_arcs}
 use Rattle.walks.specs.Walk.{weight_of, hops}
-use Rattle.walks.specs.Avoid.{Avoids-mono}
-use Rattle.walks.specs.Best.{Best-unique, Best-not-None, NoStricter, Best-same}
+use Rattle.walks.proofs.Avoid.{Avoids-mono}
+use Rattle.walks.specs.Best.{NoStricter}
+use Rattle.walks.proofs.Best.{Best-unique, Best-not-None, Best-same}
 use Rattle.book.specs.declared.Refusal.{Refusal}
 use Rattle.book.specs.Refusal.{Test, test, refusal_by}
 use Rattle.book.specs.Book.{Book, graph}

@@ -5,7 +5,8 @@ use Rattle.std.proofs.Common.{inl, inr, ⊎_elim, sym, ap, ◌∙◌, arith, lt-
 use Rattle.std.proofs.Math.Option.{Option, none, some, none-ne-some}
 use Rattle.lists.specs.Distinct.{Distinct}
 use Rattle.walks.specs.Graph.{Graph, arc_weight}
-use Rattle.walks.specs.Avoid.{same, same→≡, same_refl}
+use Rattle.walks.specs.Avoid.{same}
+use Rattle.walks.proofs.Avoid.{same→≡, same_refl}
 use Rattle.distances.specs.Edge.{Edge}
 use Rattle.distances.specs.Table.{at, inf, Least, passes}
 use Rattle.distances.specs.Pack.{pack, pack-order, found, best_bounds, hops_limit}

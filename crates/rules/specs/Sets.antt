@@ -6,7 +6,8 @@ use mathlib.Core.List.{List, [], ◌∷◌, ◌++◌, foldl, Memᴰ}
 use Rattle.std.proofs.lemmas.Bool.{not-true}
 use Rattle.std.proofs.Math.Dec.{eqb-suc-suc}
 use Rattle.lists.specs.Test.{T→true, true→T, and-true, any→some, some→any}
-use Rattle.walks.specs.Avoid.{is_prefix, same, same→≡, same_refl}
+use Rattle.walks.specs.Avoid.{is_prefix, same}
+use Rattle.walks.proofs.Avoid.{same→≡, same_refl}
 use Rattle.book.specs.Book.{All}
 use Rattle.book.specs.BookLaws.{all_snoc}
 use Rattle.rules.specs.Binding.{member, add, once}

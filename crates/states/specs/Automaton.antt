@@ -12,7 +12,8 @@ use Rattle.std.proofs.lemmas.List.{length-reverse}
 use Rattle.std.proofs.Math.Seq.{take-length, get_or-take}
 use Rattle.std.proofs.Math.Facts.{or_yes}
 use Rattle.lists.specs.Test.{conj, any, any→some, some→any, or_left, or_right, T_ext}
-use Rattle.walks.specs.Avoid.{Occurs, occurs, is_prefix, is_prefix→append, is_prefix-refl, same, same→≡, same_refl, occurs→Occurs, Occurs→occurs, Occurs-reverse, Avoids, Long}
+use Rattle.walks.specs.Avoid.{Occurs, occurs, is_prefix, same, Avoids, Long}
+use Rattle.walks.proofs.Avoid.{is_prefix→append, is_prefix-refl, same→≡, same_refl, occurs→Occurs, Occurs→occurs, Occurs-reverse}
 use Rattle.states.specs.Longest.{longest_front, longest-is, longest_cons, is_prefix→longest, longest→is_prefix}
 use Rattle.states.specs.States.{State, prefix, is_state, latest, State-closed, is_state→State, State→is_state}
 

@@ -11,10 +11,14 @@ use Rattle.std.proofs.Math.Dec.{T}
 use Rattle.lists.specs.Distinct.{Distinct, mem?}
 use Rattle.walks.specs.Graph.{Graph}
 use Rattle.walks.specs.Walk.{weight_from}
-use Rattle.walks.specs.Avoid.{Avoids, Avoids-front}
-use Rattle.walks.specs.Order.{◌≼⟨◌⟩◌, ≼_refl, ≼_trans, ≼-total}
-use Rattle.walks.specs.Best.{Feasible, Feasible-cons, Best, None}
-use Rattle.walks.specs.Feasible.{is_feasible, is_feasible→Feasible, Feasible→is_feasible}
+use Rattle.walks.specs.Avoid.{Avoids}
+use Rattle.walks.proofs.Avoid.{Avoids-front}
+use Rattle.walks.specs.Order.{◌≼⟨◌⟩◌}
+use Rattle.walks.proofs.Order.{≼_refl, ≼_trans, ≼-total}
+use Rattle.walks.specs.Best.{Feasible, Best, None}
+use Rattle.walks.proofs.Best.{Feasible-cons}
+use Rattle.walks.specs.Feasible.{is_feasible}
+use Rattle.walks.proofs.Feasible.{is_feasible→Feasible, Feasible→is_feasible}
 use Rattle.states.specs.States.{vertex, latest}
 use Rattle.states.specs.Automaton.{go, latest-go}
 use Rattle.states.specs.Follow.{Follows, feasible-follows}

@@ -3,7 +3,8 @@ use Rattle.std.specs.Prelude.{List, ◌≡◌, ℕ, suc, ◌+◌, ◌≤◌, len
 use Rattle.std.proofs.Common.{inl, inr, arith, le_trans}
 use Rattle.walks.specs.Graph.{Graph}
 use Rattle.walks.specs.Walk.{weight_from}
-use Rattle.walks.specs.Order.{Tiebreak, Tiebreak-trans, Tiebreak-antisym}
+use Rattle.walks.specs.Order.{Tiebreak}
+use Rattle.walks.proofs.Order.{Tiebreak-trans, Tiebreak-antisym}
 use Rattle.states.specs.States.{latest}
 
 pub record Cost : Type 0 where

@@ -5,10 +5,13 @@ use Rattle.std.proofs.Math.Path.{refl}
 use Rattle.std.proofs.Common.{sym, ◌∙◌, arith}
 use Rattle.lists.specs.Test.{conj}
 use Rattle.walks.specs.Graph.{Graph, is_arc}
-use Rattle.walks.specs.Walk.{Walk, Walk-single, Walk-cons, Walk-tail}
-use Rattle.walks.specs.Avoid.{Avoids, Avoids-front}
+use Rattle.walks.specs.Walk.{Walk}
+use Rattle.walks.proofs.Walk.{Walk-single, Walk-cons, Walk-tail}
+use Rattle.walks.specs.Avoid.{Avoids}
+use Rattle.walks.proofs.Avoid.{Avoids-front}
 use Rattle.walks.specs.Order.{◌≼⟨◌⟩◌}
-use Rattle.walks.specs.Best.{Feasible, Feasible-cons, Best, None}
+use Rattle.walks.specs.Best.{Feasible, Best, None}
+use Rattle.walks.proofs.Best.{Feasible-cons}
 use Rattle.states.specs.States.{latest}
 use Rattle.states.specs.Automaton.{state, go, blocked, state_cons, latest-go, avoids_cons}
 

@@ -3,7 +3,8 @@ use Rattle.std.specs.Prelude.{Bool, true, false, ◌&&◌, cond, List, [], ◌�
 use Rattle.std.proofs.Common.{sym, ap, ◌∙◌, arith, length-append, length-take, take-take, length-take-le}
 use Rattle.std.proofs.Math.Decide.{dec_lt, ℕ_discrete}
 use Rattle.std.proofs.Math.Seq.{take-append_seam}
-use Rattle.walks.specs.Avoid.{is_prefix, is_prefix→append}
+use Rattle.walks.specs.Avoid.{is_prefix}
+use Rattle.walks.proofs.Avoid.{is_prefix→append}
 
 -- The longest of take 1 w … take n w that passes P, or [].
 abbrev pub longest_front : (List ℕ → Bool) → ℕ → List ℕ → List ℕ

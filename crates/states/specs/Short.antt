@@ -4,10 +4,13 @@ use mathlib.Core.List.{List, [], ◌∷◌, Memᴰ}
 use Rattle.std.proofs.Common.{inl, inr, sym, ap, subst, arith}
 use Rattle.std.specs.Prelude.{◌≡◌, refl, ℕ, suc, ◌+◌, ◌*◌, ◌<◌, ◌≤◌, length}
 use Rattle.walks.specs.Graph.{Graph, arc_weight}
-use Rattle.walks.specs.Walk.{weight_from, weight_of, hops-length, weight-bound}
-use Rattle.walks.specs.Avoid.{Avoids, Avoids-front}
+use Rattle.walks.specs.Walk.{weight_from, weight_of}
+use Rattle.walks.proofs.Walk.{hops-length, weight-bound}
+use Rattle.walks.specs.Avoid.{Avoids}
+use Rattle.walks.proofs.Avoid.{Avoids-front}
 use Rattle.walks.specs.Order.{◌≼⟨◌⟩◌, Tiebreak, Lex}
-use Rattle.walks.specs.Best.{Feasible-cons, Best}
+use Rattle.walks.specs.Best.{Best}
+use Rattle.walks.proofs.Best.{Feasible-cons}
 use Rattle.states.specs.States.{State, vertex, latest}
 use Rattle.states.specs.Automaton.{go, go-state, latest-go}
 use Rattle.states.specs.Follow.{Follows, feasible-follows}

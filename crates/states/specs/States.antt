@@ -4,7 +4,8 @@ use mathlib.Core.List.{List, [], ◌∷◌, ◌++◌, reverse, reverse_aux, reve
 use Rattle.std.proofs.Common.{ap, arith, ltb→lt, lt→ltb, length-append}
 use Rattle.std.proofs.lemmas.List.{length-reverse}
 use Rattle.lists.specs.Test.{conj, any, any→some, some→any}
-use Rattle.walks.specs.Avoid.{is_prefix, is_prefix→append, append→is_prefix}
+use Rattle.walks.specs.Avoid.{is_prefix}
+use Rattle.walks.proofs.Avoid.{is_prefix→append, append→is_prefix}
 
 -- q is a proper prefix of r.
 abbrev pub is_proper : List ℕ → List ℕ → Bool

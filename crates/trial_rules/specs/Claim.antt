@@ -9,8 +9,10 @@ use Rattle.std.proofs.Math.Option.{Option, none, some}
 use Rattle.std.proofs.Math.Decide.{ℕ_discrete}
 use Rattle.lists.specs.Test.{true→T}
 use Rattle.walks.specs.Graph.{Graph}
-use Rattle.walks.specs.Avoid.{occurs, occurs→Occurs}
-use Rattle.walks.specs.Best.{Best, None, Best-not-None}
+use Rattle.walks.specs.Avoid.{occurs}
+use Rattle.walks.proofs.Avoid.{occurs→Occurs}
+use Rattle.walks.specs.Best.{Best, None}
+use Rattle.walks.proofs.Best.{Best-not-None}
 use Rattle.book.specs.declared.Refusal.{Refusal}
 use Rattle.book.specs.Refusal.{numbered, refusal_by}
 use Rattle.book.specs.RefusalLaws.{Fails, here, later, first-fails}

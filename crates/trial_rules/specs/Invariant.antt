@@ -9,7 +9,8 @@ use Rattle.std.proofs.Math.Seq.{take-append_seam}
 use Rattle.lists.specs.Test.{T_and}
 use Rattle.walks.specs.Graph.{Graph}
 use Rattle.walks.specs.Walk.{weight_of}
-use Rattle.walks.specs.Avoid.{occurs, occurs→Occurs}
+use Rattle.walks.specs.Avoid.{occurs}
+use Rattle.walks.proofs.Avoid.{occurs→Occurs}
 use Rattle.walks.specs.Best.{Best, None}
 use Rattle.book.specs.declared.Refusal.{Refusal}
 use Rattle.book.specs.Book.{is_path}

@@ -8,10 +8,12 @@ use Rattle.std.proofs.Math.Decide.{ℕ_discrete}
 use Rattle.std.specs.Float.Ieee.Fits.{and_i}
 use Rattle.lists.specs.Distinct.{Distinct, distinct-length}
 use Rattle.walks.specs.Walk.{weight_of}
-use Rattle.walks.specs.Order.{≼-weight}
-use Rattle.walks.specs.Avoid.{occurs, Occurs, Occurs→occurs, Avoids, ◌⊆◌}
+use Rattle.walks.proofs.Order.{≼-weight}
+use Rattle.walks.specs.Avoid.{occurs, Occurs, Avoids, ◌⊆◌}
+use Rattle.walks.proofs.Avoid.{Occurs→occurs}
 use Rattle.book.specs.Book.{is_path}
-use Rattle.walks.specs.Best.{Feasible, Best, None, Best-mono, None-mono, Best-not-None}
+use Rattle.walks.specs.Best.{Feasible, Best, None}
+use Rattle.walks.proofs.Best.{Best-mono, None-mono, Best-not-None}
 use Rattle.limits.specs.Limits.{most_paths}
 use Rattle.trial_rules.specs.Trials.{Report, passed, failed, State, standing, trials, refusal, is_named, has_room, stage_of, step, EachAccepted, named, failures, Begin, begun, state_after, accepted_of}
 use Rattle.trial_rules.specs.Accepted.{begin-accepted, not-refused}

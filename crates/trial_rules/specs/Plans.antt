@@ -3,7 +3,8 @@ use Rattle.std.specs.Prelude.{ℕ, ◌<◌, ◌≡◌, refl, List}
 use Rattle.std.proofs.Common.{ap}
 use Rattle.std.proofs.Math.Option.{Option, none, some}
 use Rattle.walks.specs.Graph.{Graph}
-use Rattle.walks.specs.Best.{Best, None, Best-unique, Best-not-None}
+use Rattle.walks.specs.Best.{Best, None}
+use Rattle.walks.proofs.Best.{Best-unique, Best-not-None}
 use Rattle.states.specs.Chosen.{Decided}
 use Rattle.trial_rules.specs.Trials.{ForbiddenSet, Plan, Planner}
 

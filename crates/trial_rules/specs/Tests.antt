@@ -13,7 +13,8 @@ use Rattle.walks.specs.Graph.{Graph}
 use Rattle.walks.specs.Walk.{weight_of}
 use Rattle.walks.specs.Avoid.{same}
 use Rattle.walks.specs.Best.{Feasible}
-use Rattle.walks.specs.Feasible.{is_feasible, is_feasible→Feasible, Feasible→is_feasible}
+use Rattle.walks.specs.Feasible.{is_feasible}
+use Rattle.walks.proofs.Feasible.{is_feasible→Feasible, Feasible→is_feasible}
 use Rattle.book.specs.Book.{All, IsPath, is_path}
 use Rattle.book.specs.Refusal.{all_hold}
 use Rattle.book.specs.RefusalLaws.{hold→all, all→hold}

@@ -4,7 +4,7 @@ use Rattle.std.proofs.Common.{sym, ap₂, subst, arith}
 use Rattle.std.proofs.Math.Option.{Option, none, some}
 use Rattle.lists.specs.Test.{T→true, true→T}
 use Rattle.walks.specs.Graph.{Graph}
-use Rattle.walks.specs.Walk.{hops-length}
+use Rattle.walks.proofs.Walk.{hops-length}
 use Rattle.states.specs.Chosen.{Decided, chosen, chosen_is}
 use Rattle.book.specs.Book.{Book, WellFormed, graph}
 use Rattle.book.specs.BookLaws.{is_path→IsPath}

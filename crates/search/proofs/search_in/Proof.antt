@@ -1,7 +1,7 @@
 -- `search::search_in` meets its contract. Assumes nothing.
 use mathlib.Core.Path.{sym}
 use lib.Seq.{length-take-le}
-use Rattle.walks.specs.Avoid.{Avoids-single}
+use Rattle.walks.proofs.Avoid.{Avoids-single}
 use borrow.Author.Rules.{rules}
 use Rattle.search.proofs.search_in.Statement.{statement}
 use Rattle.search.proofs.search_in.Tie as tie

@@ -1,0 +1,6 @@
+pub mod Stutter
+pub mod Feasible
+pub mod Best
+pub mod Order
+pub mod Walk
+pub mod Avoid
