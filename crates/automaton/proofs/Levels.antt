@@ -10,7 +10,8 @@ use lib.Dec.{T}
 use lib.ListN.{length, get_or, set, length-append, length-set, length-reverse, get_or-append}
 use lib.Seq.{get_or-set_same, get_or-set_other, get_or_at}
 use Rattle.states.specs.States.{State, vertex, latest}
-use Rattle.states.specs.Automaton.{go, fail, blocked, fail_single, fail_shorter, go-cases, blocked_nil}
+use Rattle.states.specs.Automaton.{go, fail, blocked}
+use Rattle.states.proofs.Automaton.{fail_single, fail_shorter, go-cases, blocked_nil}
 use Rattle.lists.specs.Distinct.{Distinct}
 use Rattle.limits.specs.Limits.{most_paths}
 use Rattle.states.specs.Count.{states_of, most_states}

@@ -11,8 +11,10 @@ use lib.ListN.{length, get_or, take, drop, length-append, length-reverse}
 use lib.Seq.{take-suc, take_at, length-take-le, split_at}
 use mir.Facts.{or_yes}
 use Rattle.lists.specs.Test.{or_left, or_right}
-use Rattle.states.specs.States.{State, vertex, prefix, is_state, latest, is_state→State, State→is_state}
-use Rattle.states.specs.Automaton.{go, fail, blocked, forbidden, fail_cons, fail_shorter, go-cases, blocked-cases, forbidden→member, member→forbidden}
+use Rattle.states.specs.States.{State, vertex, prefix, is_state, latest}
+use Rattle.states.proofs.States.{is_state→State, State→is_state}
+use Rattle.states.specs.Automaton.{go, fail, blocked, forbidden}
+use Rattle.states.proofs.Automaton.{fail_cons, fail_shorter, go-cases, blocked-cases, forbidden→member, member→forbidden}
 use Rattle.automaton.specs.Built.{Numbers}
 use Rattle.automaton.specs.Progress.{Row, Other}
 use Rattle.automaton.specs.Words.{member_index, index_member, number-member}

@@ -12,7 +12,8 @@ use lib.Seq.{get_or-set_same, get_or-set_other}
 use Rattle.states.specs.States.{State, latest}
 use Rattle.states.specs.Automaton.{go, fail}
 use Rattle.lists.specs.Distinct.{Distinct}
-use Rattle.states.specs.Count.{states_of, most_states, state-bound, few-states}
+use Rattle.states.specs.Count.{states_of, most_states}
+use Rattle.states.proofs.Count.{state-bound, few-states}
 use Rattle.automaton.specs.Built.{Numbers, bit}
 use Rattle.automaton.specs.Progress.{Row, Other, BitKnown, raised, clear, Room, Progress}
 use Rattle.automaton.specs.Words.{index_member, distinct_snoc, number_unique, number_of, old-word, number_more, number-new}

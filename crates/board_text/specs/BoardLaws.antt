@@ -4,7 +4,8 @@ use Rattle.std.proofs.Common.{sym, ap, ap₂, ◌∙◌, arith, lt-ltb, le-ltb, 
 use mathlib.Core.List.{List, [], ◌∷◌, ◌++◌, append-nil, Memᴰ}
 use Rattle.std.proofs.Math.Option.{Option, none, some}
 use Rattle.limits.specs.Limits.{longest_path}
-use Rattle.states.specs.Chosen.{Decided, chosen, chosen_is}
+use Rattle.states.specs.Chosen.{Decided, chosen}
+use Rattle.states.proofs.Chosen.{chosen_is}
 use Rattle.book.specs.Book.{Book, WellFormed, graph}
 use Rattle.book.specs.BookLaws.{reading-is-book, all-member}
 use Rattle.book.specs.EntryLaws.{Short}

@@ -6,7 +6,8 @@ use Rattle.std.proofs.lemmas.List.{length-map}
 use Rattle.limits.specs.Limits.{most_vertices, area_size, longest}
 use Rattle.walks.specs.Graph.{Graph}
 use Rattle.walks.specs.Walk.{Walk, weight_of, hops}
-use Rattle.states.specs.Chosen.{Decided, chosen, chosen_is}
+use Rattle.states.specs.Chosen.{Decided, chosen}
+use Rattle.states.proofs.Chosen.{chosen_is}
 use Rattle.book.specs.declared.Refusal.{Refusal}
 use Rattle.book.specs.Refusal.{refusal_by}
 use Rattle.book.specs.Book.{Book, graph}

@@ -6,7 +6,8 @@ use Rattle.limits.specs.Limits.{most_vertices, area_size}
 use Rattle.walks.specs.Graph.{Graph, from_arcs}
 use Rattle.walks.specs.Best.{NoStricter}
 use Rattle.walks.proofs.Best.{Best-unique, Best-not-None, Best-same}
-use Rattle.states.specs.Chosen.{Decided, chosen, chosen_is}
+use Rattle.states.specs.Chosen.{Decided, chosen}
+use Rattle.states.proofs.Chosen.{chosen_is}
 use Rattle.book.specs.declared.Refusal.{Refusal}
 use Rattle.book.specs.Refusal.{test, refusal_by}
 use Rattle.book.specs.Book.{Book, WellFormed, graph}

@@ -17,8 +17,9 @@ use Rattle.walks.specs.Avoid.{Long}
 use Rattle.walks.specs.Weights.{Weights}
 use Rattle.walks.specs.Best.{Best, None}
 use Rattle.walks.proofs.Best.{Best-unique, Best-not-None, Best-stay}
-use Rattle.states.specs.Short.{best-bound, best-weight}
-use Rattle.states.specs.Chosen.{chosen, Decided, chosen_is}
+use Rattle.states.proofs.Short.{best-bound, best-weight}
+use Rattle.states.specs.Chosen.{chosen, Decided}
+use Rattle.states.proofs.Chosen.{chosen_is}
 use Rattle.ends.specs.Ends.{no_end, entry_of, ends}
 
 pub length-entry : (g : Graph) (o : Option (List ℕ)) → length (entry_of g o) ≡ 2

@@ -13,7 +13,8 @@ use Rattle.states.specs.States.{latest}
 use Rattle.states.specs.Automaton.{go, blocked}
 use Rattle.states.specs.Follow.{Step}
 use Rattle.states.specs.Cost.{Cost, ◌≤ᶜ◌, via}
-use Rattle.states.specs.Greedy.{Settled, Usable, Greedy, greedy_best, settled-none}
+use Rattle.states.specs.Greedy.{Settled, Usable, Greedy}
+use Rattle.states.proofs.Greedy.{greedy_best, settled-none}
 
 -- A state with its distance to the end, none where the end cannot be reached.
 pub record Entry : Type 0 where

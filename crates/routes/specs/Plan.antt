@@ -7,7 +7,8 @@ use Rattle.walks.specs.Avoid.{Avoids}
 use Rattle.walks.specs.Best.{Best, None}
 use Rattle.distances.specs.Table.{at, inf, passes}
 use Rattle.automaton.specs.Area.{Spells, Bounded, Given}
-use Rattle.states.specs.Count.{most_states, states-longest}
+use Rattle.states.specs.Count.{most_states}
+use Rattle.states.proofs.Count.{states-longest}
 use Rattle.automaton.specs.Built.{Built}
 use Rattle.distances.specs.Pack.{hops_limit}
 use Rattle.limits.specs.Limits.{longest}

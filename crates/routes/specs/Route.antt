@@ -17,7 +17,8 @@ use Rattle.distances.specs.Pack.{pack, hops_limit}
 use Rattle.states.specs.States.{latest}
 use Rattle.states.specs.Automaton.{go}
 use Rattle.states.specs.Cost.{Cost, via, cost_of}
-use Rattle.states.specs.Greedy.{Usable, Greedy, greedy_cost, greedy_best, settled-none}
+use Rattle.states.specs.Greedy.{Usable, Greedy}
+use Rattle.states.proofs.Greedy.{greedy_cost, greedy_best, settled-none}
 use Rattle.automaton.specs.Built.{Built}
 use Rattle.routes.specs.Word.{word, Lowest, word-lowest}
 use Rattle.walks.specs.Weights.{Weights}

@@ -5,7 +5,8 @@ use Rattle.std.proofs.Math.Option.{Option, none, some}
 use Rattle.lists.specs.Test.{T→true, true→T}
 use Rattle.walks.specs.Graph.{Graph}
 use Rattle.walks.proofs.Walk.{hops-length}
-use Rattle.states.specs.Chosen.{Decided, chosen, chosen_is}
+use Rattle.states.specs.Chosen.{Decided, chosen}
+use Rattle.states.proofs.Chosen.{chosen_is}
 use Rattle.book.specs.Book.{Book, WellFormed, graph}
 use Rattle.book.specs.BookLaws.{is_path→IsPath}
 use Rattle.rules.specs.Binding.{known}

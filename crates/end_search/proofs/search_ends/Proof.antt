@@ -1,6 +1,7 @@
 -- `end_search::search_ends` meets its contract: the arrays have room for all states. Assumes nothing.
 use native.Mathlib.Omega.{arith}
-use Rattle.states.specs.Count.{most_states, few-states}
+use Rattle.states.specs.Count.{most_states}
+use Rattle.states.proofs.Count.{few-states}
 use Rattle.measuring.specs.Work.{blank_work}
 use borrow.Author.Rules.{rules}
 use Rattle.end_search.proofs.search_ends.Statement.{statement}

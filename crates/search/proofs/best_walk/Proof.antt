@@ -1,6 +1,6 @@
 -- `search::best_walk` meets its contract: the states fit the tables that are chosen. Assumes nothing.
 use native.Mathlib.Omega.{arith}
-use Rattle.states.specs.Count.{few-states}
+use Rattle.states.proofs.Count.{few-states}
 use Rattle.routes.specs.Plan.{Asked}
 use borrow.Author.Rules.{rules}
 use Rattle.search.proofs.best_walk.Statement.{statement}

@@ -1,0 +1,26 @@
+-- What a walk costs: weight, then hops.
+use Rattle.std.specs.Prelude.{List, ◌≡◌, ℕ, suc, ◌+◌, ◌≤◌, length}
+use Rattle.std.proofs.Common.{inl, inr, arith, le_trans}
+use Rattle.walks.specs.Graph.{Graph}
+use Rattle.walks.specs.Walk.{weight_from}
+use Rattle.walks.specs.Order.{Tiebreak}
+use Rattle.walks.proofs.Order.{Tiebreak-trans, Tiebreak-antisym}
+use Rattle.states.specs.States.{latest}
+use Rattle.states.specs.Cost.{Cost, ◌≤ᶜ◌, via}
+
+pub ≤ᶜ-trans : {x y z : Cost} → x ≤ᶜ y → y ≤ᶜ z → x ≤ᶜ z
+≤ᶜ-trans = Tiebreak-trans le_trans
+
+pub ≤ᶜ-antisym : {x y : Cost} → x ≤ᶜ y → y ≤ᶜ x → x ≡ y
+≤ᶜ-antisym {x} {y} p q =
+    let h = Tiebreak-antisym p q in
+    let k : x.hops ≡ y.hops = omega arith in
+    λ i. record { weight = h.0 i; hops = k i }
+
+pub via_mono : (a : ℕ) {x y : Cost} → x ≤ᶜ y → via a x ≤ᶜ via a y
+via_mono a (inl p) = inl (omega arith)
+via_mono a (inr p) = inr (omega arith)
+
+pub via_cancel : (a : ℕ) {x y : Cost} → via a x ≤ᶜ via a y → x ≤ᶜ y
+via_cancel a (inl p) = inl (omega arith)
+via_cancel a (inr p) = inr (omega arith)

@@ -1,0 +1,9 @@
+pub mod Automaton
+pub mod Chosen
+pub mod Cost
+pub mod Count
+pub mod Follow
+pub mod Greedy
+pub mod Longest
+pub mod Short
+pub mod States
