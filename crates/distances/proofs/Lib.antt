@@ -3,3 +3,14 @@ pub mod Passing
 pub mod Linking
 pub mod Lowering
 pub mod Rounding
+pub mod Bellman
+pub mod Chain
+pub mod Columns
+pub mod Ends
+pub mod Pack
+pub mod PassLaws
+pub mod Ready
+pub mod Reverse
+pub mod SettleLaws
+pub mod Settled
+pub mod Shorten

@@ -9,7 +9,8 @@ use native.Mathlib.Decide.{ℕ_discrete}
 use lib.ListN.{length, set, length-set}
 use lib.Seq.{get_or-set_same, get_or-set_other}
 use Rattle.distances.specs.Table.{at}
-use Rattle.distances.specs.Chain.{last, last-same, last-other}
+use Rattle.distances.specs.Chain.{last}
+use Rattle.distances.proofs.Chain.{last-same, last-other}
 
 pub record Linking (heads : List ℕ) (i : ℕ) (first next : List ℕ) : Type 0 where
   pub next-length : length next ≡ length heads

@@ -9,11 +9,14 @@ use native.Mathlib.Decide.{ℕ_discrete, dec_lt}
 use lib.ListN.{length, set, length-set}
 use lib.Seq.{set-get_or}
 use Rattle.distances.specs.Edge.{Edge, ◌∈◌, edges}
-use Rattle.distances.specs.Columns.{edge_at, edge-at-mem, edge_index}
+use Rattle.distances.specs.Columns.{edge_at}
+use Rattle.distances.proofs.Columns.{edge-at-mem, edge_index}
 use Rattle.distances.specs.Table.{at, relax}
-use Rattle.distances.specs.Pass.{FromEdge, relax_le, relax-tail, relax-from}
+use Rattle.distances.specs.Pass.{FromEdge}
+use Rattle.distances.proofs.PassLaws.{relax_le, relax-tail, relax-from}
 use Rattle.distances.specs.Ready.{Ready}
-use Rattle.distances.specs.Chain.{last, last_le, last-head, last_none}
+use Rattle.distances.specs.Chain.{last}
+use Rattle.distances.proofs.Chain.{last_le, last-head, last_none}
 use Rattle.distances.specs.Settle.{Lowered}
 
 module _ (tails heads costs t₀ : List ℕ) (h : ℕ) where

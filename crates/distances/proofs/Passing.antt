@@ -10,9 +10,10 @@ use lib.Dec.{T}
 use borrow.Author.Tests.{not-true, not-false}
 use Rattle.distances.specs.Edge.{edges}
 use Rattle.distances.specs.Table.{pass, passes, settled}
-use Rattle.distances.specs.Pass.{pass_le, length-pass, length-passes}
-use Rattle.distances.specs.Settled.{passes_stay, pass-settled}
-use Rattle.distances.specs.Ready.{Ready, ready_lower}
+use Rattle.distances.proofs.PassLaws.{pass_le, length-pass, length-passes}
+use Rattle.distances.proofs.Settled.{passes_stay, pass-settled}
+use Rattle.distances.specs.Ready.{Ready}
+use Rattle.distances.proofs.Ready.{ready_lower}
 
 module _ (tails heads costs : List ℕ) (bound : ℕ) (table₀ : List ℕ) where
   pub record Passing (k : ℕ) (table spare : List ℕ) : Type 0 where

@@ -9,7 +9,8 @@ use native.Mathlib.Decide.{ℕ_discrete, dec_lt}
 use lib.ListN.{length, set, length-set, get_or-eq_default}
 use Rattle.distances.specs.Edge.{Edge}
 use Rattle.distances.specs.Table.{at}
-use Rattle.distances.specs.Settle.{Lowered, Progress, Rounded, sum, sum-set, progress-next}
+use Rattle.distances.specs.Settle.{Lowered, Progress, Rounded, sum}
+use Rattle.distances.proofs.SettleLaws.{sum-set, progress-next}
 
 module _ (es : List Edge) (t₀ seen₀ : List ℕ) where
   pub record Rounding (h : ℕ) (t seen : List ℕ) (taken : Bool) : Type 0 where

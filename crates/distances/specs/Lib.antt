@@ -3,9 +3,7 @@
 pub mod Edge
 pub mod Table
 pub mod Pass
-pub mod Settled
 pub mod Shorten
-pub mod Bellman
 pub mod Reverse
 pub mod Ends
 pub mod Pack

@@ -12,7 +12,7 @@ use lib.ListN.{set}
 use lib.Seq.{get_or-set_other}
 use Rattle.limits.specs.Limits.{most_vertices}
 use Rattle.distances.specs.Table.{at, inf}
-use Rattle.distances.specs.Pass.{at_set}
+use Rattle.distances.proofs.PassLaws.{at_set}
 use Rattle.distances.specs.Ends.{least_over}
 use Rattle.ends.specs.Least.{least_at, Gathered}
 

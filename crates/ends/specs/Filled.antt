@@ -14,8 +14,8 @@ use Rattle.walks.specs.Weights.{Weights}
 use Rattle.distances.specs.Edge.{Edge, Within}
 use Rattle.distances.specs.Table.{at, inf, passes}
 use Rattle.distances.specs.Pack.{hops_limit}
-use Rattle.distances.specs.Shorten.{passes-least-of-all}
-use Rattle.distances.specs.Ends.{least-over-ends}
+use Rattle.distances.proofs.Shorten.{passes-least-of-all}
+use Rattle.distances.proofs.Ends.{least-over-ends}
 use Rattle.states.specs.Chosen.{chosen}
 use Rattle.automaton.specs.Area.{Bounded}
 use Rattle.automaton.specs.Built.{Built}

@@ -9,7 +9,7 @@ use Rattle.distances.specs.Edge.{Edge, ◌∈◌, cost}
 use Rattle.distances.specs.Table.{at, Attained, Least, settled}
 use Rattle.lists.specs.Test.{T_and}
 use Rattle.std.proofs.Math.Facts.{or_yes}
-use Rattle.distances.specs.Settled.{settled-attained}
+use Rattle.distances.proofs.Settled.{settled-attained}
 
 -- an edge from q, not free, that gives q its entry
 abbrev pub gives : List ℕ → ℕ → Edge → Bool

@@ -9,7 +9,8 @@ use Rattle.std.proofs.Math.Decide.{ℕ_discrete, dec_lt}
 use Rattle.std.proofs.Math.ListN.{length-append, get_or-append, get_or-eq_default}
 use Rattle.std.proofs.lemmas.List.{get_or_at}
 use Rattle.distances.specs.Edge.{Edge, Within}
-use Rattle.distances.specs.Reverse.{swapped, within-swapped}
+use Rattle.distances.specs.Reverse.{swapped}
+use Rattle.distances.proofs.Reverse.{within-swapped}
 use Rattle.distances.specs.Table.{at, inf}
 use Rattle.distances.specs.Pack.{Targets}
 

@@ -7,7 +7,8 @@ use Rattle.std.proofs.Math.ListN.{get_or-eq_default}
 use Rattle.limits.specs.Limits.{most_vertices}
 use Rattle.distances.specs.Edge.{edges, Within}
 use Rattle.distances.specs.Table.{at, inf, passes}
-use Rattle.distances.specs.Ready.{Ready, ready-head}
+use Rattle.distances.specs.Ready.{Ready}
+use Rattle.distances.proofs.Ready.{ready-head}
 use Rattle.distances.specs.Chain.{Linked}
 use Rattle.states.specs.Count.{most_states}
 use Rattle.product.specs.Product.{state_edges, edges-over}

@@ -9,9 +9,10 @@ use Rattle.walks.specs.Avoid.{same}
 use Rattle.walks.proofs.Avoid.{same→≡, same_refl}
 use Rattle.distances.specs.Edge.{Edge}
 use Rattle.distances.specs.Table.{at, inf, Least, passes}
-use Rattle.distances.specs.Pack.{pack, pack-order, found, best_bounds, hops_limit}
-use Rattle.distances.specs.Shorten.{passes-least-of-all}
-use Rattle.distances.specs.Bellman.{least-edge, first_edge}
+use Rattle.distances.specs.Pack.{pack, hops_limit}
+use Rattle.distances.proofs.Pack.{pack-order, found, best_bounds}
+use Rattle.distances.proofs.Shorten.{passes-least-of-all}
+use Rattle.distances.proofs.Bellman.{least-edge, first_edge}
 use Rattle.states.specs.States.{latest}
 use Rattle.states.specs.Automaton.{go}
 use Rattle.states.specs.Follow.{Step}

@@ -6,7 +6,7 @@ use Rattle.std.proofs.Math.Decide.{dec_lt}
 use Rattle.std.proofs.Math.ListN.{get_or-eq_default}
 use Rattle.walks.specs.Graph.{Graph}
 use Rattle.distances.specs.Table.{at, inf, passes}
-use Rattle.distances.specs.Pass.{length-passes}
+use Rattle.distances.proofs.PassLaws.{length-passes}
 use Rattle.automaton.specs.Built.{Built}
 use Rattle.walks.specs.Weights.{Weights}
 use Rattle.distances.specs.Pack.{hops_limit}

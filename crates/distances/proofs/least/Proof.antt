@@ -3,7 +3,7 @@ use Prim.Native.Nat.{◌-◌}
 use mathlib.Core.Path.{sym, ap, ◌∙◌}
 use native.Mathlib.Omega.{arith}
 use lib.ListN.{length}
-use Rattle.distances.specs.Pass.{length-pass}
+use Rattle.distances.proofs.PassLaws.{length-pass}
 use Rattle.distances.proofs.Passing.{Passing, passing-none, passing-length, passing-next, passing-settled, passing-done}
 use Rattle.distances.proofs.least.Statement.{statement}
 use Rattle.distances.proofs.least.Tie as tie

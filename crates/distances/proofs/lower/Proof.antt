@@ -5,8 +5,10 @@ use mathlib.Core.Logic.{⊎_elim}
 use native.Mathlib.Omega.{arith}
 use lib.ListN.{length}
 use Rattle.distances.specs.Table.{at}
-use Rattle.distances.specs.Columns.{edge_at, edge-at-mem}
-use Rattle.distances.specs.Chain.{last, last_le}
+use Rattle.distances.specs.Columns.{edge_at}
+use Rattle.distances.proofs.Columns.{edge-at-mem}
+use Rattle.distances.specs.Chain.{last}
+use Rattle.distances.proofs.Chain.{last_le}
 use Rattle.distances.proofs.Lowering.{Lowering, lowering_none, lowering_all, lowering_lower, lowering_keep}
 use Rattle.distances.proofs.lower.Statement.{statement}
 use Rattle.distances.proofs.lower.Lts.{then-reach-table, else-reach-table}

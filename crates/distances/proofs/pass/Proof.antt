@@ -7,7 +7,8 @@ use native.Mathlib.Numerals.{add-one}
 use native.Mathlib.Omega.{arith}
 use lib.ListN.{length, drop, get_or, length-set, drop_of_length-le}
 use Rattle.distances.specs.Edge.{edges}
-use Rattle.distances.specs.Columns.{edge_at, edge-at-mem, drop-edges, length-edges_le}
+use Rattle.distances.specs.Columns.{edge_at}
+use Rattle.distances.proofs.Columns.{edge-at-mem, drop-edges, length-edges_le}
 use Rattle.distances.proofs.Turn.{Turn, turn-none, turn-all, turn_lower, turn_keep}
 use Rattle.distances.proofs.pass.Statement.{statement}
 use Rattle.distances.proofs.pass.Lts.{then-reach-new, else-reach-new}

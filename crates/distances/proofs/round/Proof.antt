@@ -5,7 +5,7 @@ use mathlib.Core.Logic.{⊎_elim}
 use native.Mathlib.Omega.{arith}
 use lib.ListN.{length}
 use Rattle.distances.specs.Edge.{edges}
-use Rattle.distances.specs.Ready.{ready_lower}
+use Rattle.distances.proofs.Ready.{ready_lower}
 use Rattle.distances.proofs.Rounding.{Rounding, rounding_none, rounding_take, rounding_skip, rounding_all}
 use Rattle.distances.proofs.round.Statement.{statement}
 use Rattle.distances.proofs.round.Lts.{then-d-seen, else-d-seen}

@@ -2,8 +2,9 @@
 use mathlib.Core.Path.{sym, ◌∙◌}
 use native.Mathlib.Omega.{arith}
 use Rattle.distances.specs.Edge.{edges}
-use Rattle.distances.specs.Ready.{ready_lower}
-use Rattle.distances.specs.Settle.{Progress, sum, progress-none, progress-done}
+use Rattle.distances.proofs.Ready.{ready_lower}
+use Rattle.distances.specs.Settle.{Progress, sum}
+use Rattle.distances.proofs.SettleLaws.{progress-none, progress-done}
 use Rattle.distances.proofs.settle.Statement.{statement}
 use Rattle.distances.proofs.settle.Tie as tie
 

@@ -9,7 +9,7 @@ use Rattle.distances.specs.Edge.{Edge, ◌∈◌, Path, cost}
 use Rattle.distances.specs.Table.{at, Attained, Least, relaxes, pass, passes, settled}
 use Rattle.std.specs.Float.Ieee.Fits.{and_i}
 use Rattle.lists.specs.Test.{T_and}
-use Rattle.distances.specs.Pass.{passes-least}
+use Rattle.distances.proofs.PassLaws.{passes-least}
 
 pub least_unique : {es : List Edge} {base : List ℕ} {q d d' : ℕ} → Least es base q d → Least es base q d' → d ≡ d'
 least_unique l l' =
