@@ -6,7 +6,8 @@ use Rattle.walks.specs.Graph.{Graph}
 use Rattle.walks.proofs.Walk.{hops-length}
 use Rattle.walks.proofs.Best.{Best-unique, Best-not-None}
 use Rattle.book.specs.declared.Refusal.{Refusal}
-use Rattle.book.specs.RefusalLaws.{Fails, Hold, first-fails, hold→none}
+use Rattle.book.specs.RefusalLaws.{Fails, Hold}
+use Rattle.book.proofs.RefusalLaws.{first-fails, hold→none}
 use Rattle.book.specs.Book.{Book, graph}
 use Rattle.book.specs.Reading.{accepted, reading, refusal_of, book_in}
 use Rattle.rules.specs.Binding.{known}

@@ -7,11 +7,11 @@ use Rattle.limits.specs.Limits.{longest_path}
 use Rattle.states.specs.Chosen.{Decided, chosen}
 use Rattle.states.proofs.Chosen.{chosen_is}
 use Rattle.book.specs.Book.{Book, WellFormed, graph}
-use Rattle.book.specs.BookLaws.{reading-is-book, all-member}
+use Rattle.book.proofs.BookLaws.{reading-is-book, all-member}
 use Rattle.book.specs.EntryLaws.{Short}
 use Rattle.book.specs.Reading.{accepted, reading, u16_at}
 use Rattle.book.specs.Refusal.{numbered, test, refusal_by}
-use Rattle.book.specs.TableLaws.{book-weights}
+use Rattle.book.proofs.TableLaws.{book-weights}
 use Rattle.rules.specs.Binding.{known}
 use Rattle.rules.specs.BindingLaws.{known-few, known-short}
 use Rattle.text.specs.Text.{refusal_text}

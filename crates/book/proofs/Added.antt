@@ -10,7 +10,8 @@ use Rattle.book.specs.declared.Kind.TheVariants.{VertexCount, Arc, RuleSet, Path
 use Rattle.book.specs.Book.{RuleSet as Book-as-RuleSet, Book, all_paths, counts}
 use Rattle.book.specs.Reading.{count_at, arc_at, flags_at, path_at, extended, add_path}
 use Rattle.book.specs.Tables.{flags_of, owners_from, padded, flag_table}
-use Rattle.book.specs.BookLaws.{bare, paths-set, length-sets-path, paths-path}
+use Rattle.book.specs.BookLaws.{bare, paths-set}
+use Rattle.book.proofs.BookLaws.{length-sets-path, paths-path}
 use Rattle.book.proofs.Padded.{padded-set}
 
 -- ---- a rule set

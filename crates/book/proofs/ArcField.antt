@@ -17,9 +17,9 @@ use Rattle.book.specs.declared.Refusal.TheVariants.{Value, Repeated}
 use Rattle.walks.specs.Graph.{Arc as Book-as-Arc}
 use Rattle.book.specs.Refusal.{first_failure}
 use Rattle.book.specs.Book.{Book, IsArc, counts, proper_arc}
-use Rattle.book.specs.BookLaws.{is-arc}
+use Rattle.book.proofs.BookLaws.{is-arc}
 use Rattle.book.specs.Reading.{Reading, accepted, refused, outcome, read_as, verdict_of, arc_at, arc_tests, add_arc, with_arc, taken, kept}
-use Rattle.book.specs.TableLaws.{entered-arc, marked→free, unmarked→given}
+use Rattle.book.proofs.TableLaws.{entered-arc, marked→free, unmarked→given}
 use Rattle.book.specs.Tables.{IsGraph, Enters, weight_table}
 use Rattle.limits.specs.Limits.{most_vertices, no_arc}
 use Rattle.book.proofs.Added.{counts-arc}

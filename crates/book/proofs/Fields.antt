@@ -14,9 +14,10 @@ use Rattle.book.specs.declared.Counts.{Counts}
 use Rattle.book.specs.declared.Kind.{Kind}
 use Rattle.book.specs.declared.Kind.TheVariants.{VertexCount, Arc, RuleSet, Path}
 use Rattle.book.specs.Refusal.{first_failure}
-use Rattle.book.specs.RefusalLaws.{none→hold, first-of_append, first-kept}
+use Rattle.book.proofs.RefusalLaws.{none→hold, first-of_append, first-kept}
 use Rattle.book.specs.Book.{Book, WellFormed, counts}
-use Rattle.book.specs.BookLaws.{paths-set, field-well_formed}
+use Rattle.book.specs.BookLaws.{paths-set}
+use Rattle.book.proofs.BookLaws.{field-well_formed}
 use Rattle.book.specs.Reading.{Reading, accepted, refused, verdict, kind_at, length_at, end_at, flags_at, path_at, follows, fits, framing, content, framed, extended, outcome, taken, kept, field}
 use Rattle.book.specs.Tables.{IsLoaded, weight_table, flag_table, owner_table, path_table, padded, entries}
 use Rattle.book.proofs.Added.{owners_set, flags-path}

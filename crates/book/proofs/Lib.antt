@@ -7,3 +7,8 @@ pub mod ArcField
 pub mod PathField
 pub mod Fields
 pub mod Loop
+pub mod BookLaws
+pub mod EntryLaws
+pub mod Loaded
+pub mod RefusalLaws
+pub mod TableLaws

@@ -12,7 +12,7 @@ use Rattle.book.specs.declared.Counts.{Counts}
 use Rattle.book.specs.declared.Kind.{Kind}
 use Rattle.book.specs.declared.Kind.TheVariants.{VertexCount, Path, Unknown}
 use Rattle.book.specs.Book.{Book, all_paths, blank, counts}
-use Rattle.book.specs.BookLaws.{answer-read, answer-refused, blank-well_formed, field-passed, field_extends}
+use Rattle.book.proofs.BookLaws.{answer-read, answer-refused, blank-well_formed, field-passed, field_extends}
 use Rattle.book.specs.Reading.{Reading, accepted, refused, read_as, kind_at, end_at, arc_at, and_then, extended, kept, field, fields, reading}
 use Rattle.book.specs.Tables.{Blank, IsLoaded, entered, owners_from, entries}
 use Rattle.book.proofs.Fields.{is-loaded}

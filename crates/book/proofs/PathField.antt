@@ -15,10 +15,10 @@ use Rattle.book.specs.declared.Counts.{Counts}
 use Rattle.book.specs.declared.Kind.TheVariants.{Path}
 use Rattle.book.specs.declared.Refusal.TheVariants.{Value, TooMany}
 use Rattle.book.specs.Book.{Book, RuleSet, All, WellFormed, all_paths, counts, are_vertices}
-use Rattle.book.specs.BookLaws.{all_map, paths-path}
+use Rattle.book.proofs.BookLaws.{all_map, paths-path}
 use Rattle.book.specs.Reading.{Reading, read_as, add_path, end_at, length_at, path_at, taken, kept, proper}
 use Rattle.book.specs.Tables.{owners_from, entries, padded, owner_table, path_table}
-use Rattle.book.specs.EntryLaws.{length_owners, entries_snoc, length-entries}
+use Rattle.book.proofs.EntryLaws.{length_owners, entries_snoc, length-entries}
 use Rattle.book.proofs.Added.{counts-path, owners_path}
 use Rattle.book.proofs.Padded.{padded-set, padded-entry}
 use Rattle.book.proofs.Taken.{taken-value, taken_many, taken-whole}

@@ -5,7 +5,7 @@ use Rattle.limits.specs.Limits.{most_vertices}
 use Rattle.walks.specs.Graph.{Arc}
 use Rattle.book.specs.declared.Kind.{Kind}
 use Rattle.book.specs.declared.Kind.TheVariants.{VertexCount, Path, Unknown}
-use Rattle.book.specs.RefusalLaws.{hold→none}
+use Rattle.book.proofs.RefusalLaws.{hold→none}
 use Rattle.book.specs.Book.{RuleSet, Book, given, proper_arc, are_vertices}
 use Rattle.book.specs.BookLaws.{bare}
 use Rattle.book.specs.Reading.{accepted, kind_at, length_at, end_at, follows, fits, proper, fresh, room, framing, content, extended, add_path, add_arc, outcome, field}

@@ -13,7 +13,8 @@ use Rattle.walks.specs.Graph.{Arc}
 use Rattle.book.specs.declared.Kind.{Kind}
 use Rattle.book.specs.declared.Kind.TheVariants.{VertexCount, Path, Unknown}
 use Rattle.book.specs.Book.{Book, All, IsArc, PairsOnce, WellFormed, all_paths, given}
-use Rattle.book.specs.BookLaws.{given_cons, paths-set, paths-path, length-sets-path, not-zero}
+use Rattle.book.specs.BookLaws.{paths-set}
+use Rattle.book.proofs.BookLaws.{given_cons, paths-path, length-sets-path, not-zero}
 use Rattle.book_bytes.specs.Bytes.{longest_book}
 use Rattle.book.specs.Reading.{length_at, end_at, count_at, arc_at, flags_at, path_at, follows, fits, proper, extended}
 

@@ -6,7 +6,7 @@ use Rattle.std.proofs.Common.{length-append}
 use Rattle.limits.specs.Limits.{most_vertices}
 use Rattle.walks.specs.Graph.{Arc}
 use Rattle.book.specs.Book.{RuleSet, Book, All, IsArc, IsPath, all_paths}
-use Rattle.book.specs.BookLaws.{all_map, all_append, all_left, all_right}
+use Rattle.book.proofs.BookLaws.{all_map, all_append, all_left, all_right}
 use Rattle.book_bytes.specs.Bytes.{AreBytes, count_field, arc_field, flags_field, path_field, set_fields, bytes_of, Keeps}
 
 -- ---- every byte is below 256

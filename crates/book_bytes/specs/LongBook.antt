@@ -16,7 +16,7 @@ use Rattle.book.specs.declared.Refusal.{Refusal}
 use Rattle.book.specs.declared.Refusal.TheVariants.{Truncated, Tag, Length, Value, Repeated, TooMany}
 use Rattle.book.specs.Refusal.{first_failure}
 use Rattle.book.specs.Book.{Book, WellFormed, blank, given, proper_arc, are_vertices, all_paths}
-use Rattle.book.specs.BookLaws.{blank-well_formed, field-passed, field_extends, field-well_formed, and-then-accepted}
+use Rattle.book.proofs.BookLaws.{blank-well_formed, field-passed, field_extends, field-well_formed, and-then-accepted}
 use Rattle.book.specs.Reading.{Reading, accepted, refused, reading, fields, field, and_then, outcome, taken, content, extended, add_path, follows, fits, kind_of, kind_at, length_at, end_at, arc_at, flags_at, path_at}
 use Rattle.book_bytes.specs.Bytes.{longest_book}
 use Rattle.book_bytes.specs.BookSize.{Sized, size-bound, next-sized}

@@ -6,7 +6,7 @@ use Rattle.limits.specs.Limits.{most_vertices, most_sets, longest_path}
 use Rattle.lists.specs.Test.{all, and-true, either}
 use Rattle.walks.specs.Graph.{Arc}
 use Rattle.book.specs.Book.{Book, All, PairsOnce, all_paths, given, proper_arc, are_vertices, is_path}
-use Rattle.book.specs.BookLaws.{is-arc, is_path→IsPath, given_cons}
+use Rattle.book.proofs.BookLaws.{is-arc, is_path→IsPath, given_cons}
 use Rattle.book.specs.Reading.{accepted, reading}
 use Rattle.book_bytes.specs.Bytes.{AreBytes, bytes_of, Keeps, longest_book}
 use Rattle.book_bytes.specs.BytesLaws.{bytes_below, length-bytes}

@@ -12,7 +12,7 @@ use Rattle.walks.specs.Graph.{Arc}
 use Rattle.book.specs.declared.Kind.{Kind}
 use Rattle.book.specs.declared.Kind.TheVariants.{VertexCount, Path}
 use Rattle.book.specs.Book.{RuleSet, Book, blank, All, IsArc, PairsOnce, IsPath, all_paths, path_length, are_vertices, is_path}
-use Rattle.book.specs.BookLaws.{all_left, all_right, arc-passes, not-before, IsPath→is_path}
+use Rattle.book.proofs.BookLaws.{all_left, all_right, arc-passes, not-before, IsPath→is_path}
 use Rattle.book.specs.Reading.{Reading, accepted, end_at, add_path, and_then, field, fields}
 use Rattle.book_bytes.specs.Bytes.{count_field, arc_field, path_field, set_fields, bytes_of, Keeps}
 use Rattle.book_bytes.specs.Field.{Value, written, length-written}

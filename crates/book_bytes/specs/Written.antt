@@ -13,7 +13,8 @@ use Rattle.walks.specs.Graph.{Arc}
 use Rattle.book.specs.declared.Kind.{Kind}
 use Rattle.book.specs.declared.Kind.TheVariants.{VertexCount, Path, Unknown}
 use Rattle.book.specs.Book.{RuleSet, Book, blank, All, IsArc, WellFormed}
-use Rattle.book.specs.BookLaws.{Passed, all_snoc, not-zero, field-passed, field_extends, field-well_formed, blank-well_formed, reading-is-book, enough_turns, and-then-accepted}
+use Rattle.book.specs.BookLaws.{Passed}
+use Rattle.book.proofs.BookLaws.{all_snoc, not-zero, field-passed, field_extends, field-well_formed, blank-well_formed, reading-is-book, enough_turns, and-then-accepted}
 use Rattle.book.specs.Reading.{accepted, kind_at, length_at, end_at, follows, fits, proper, extended, add_path, field, fields, reading}
 use Rattle.book_bytes.specs.Bytes.{AreBytes, count_field, arc_field, flags_field, path_field, set_fields, bytes_of, Keeps}
 use Rattle.book_bytes.specs.Field.{Value, value_at, written, kind_moved, length_moved, value_moved, byte-below, field-again}

@@ -11,7 +11,7 @@ use Rattle.states.proofs.Chosen.{chosen_is}
 use Rattle.book.specs.declared.Refusal.{Refusal}
 use Rattle.book.specs.Refusal.{refusal_by}
 use Rattle.book.specs.Book.{Book, graph}
-use Rattle.book.specs.BookLaws.{reading-is-book}
+use Rattle.book.proofs.BookLaws.{reading-is-book}
 use Rattle.book.specs.Reading.{Reading, accepted, reading, read_as, refusal_of, book_in}
 use Rattle.rules.specs.Binding.{known}
 use Rattle.rules.specs.Area.{blocks, spelled}

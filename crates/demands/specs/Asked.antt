@@ -14,7 +14,7 @@ use Rattle.walks.proofs.Avoid.{occurs→Occurs, Occurs→occurs}
 use Rattle.book.specs.declared.Refusal.{Refusal}
 use Rattle.book.specs.Refusal.{Test, order, in_order, refusal_by}
 use Rattle.book.specs.Book.{Book, graph, IsPath, is_path}
-use Rattle.book.specs.BookLaws.{is_path→IsPath, IsPath→is_path}
+use Rattle.book.proofs.BookLaws.{is_path→IsPath, IsPath→is_path}
 use Rattle.book.specs.Reading.{Reading, accepted, refused, refusal_of}
 use Rattle.rules.specs.Area.{written, blocks, spelled, valid}
 use Rattle.rules.specs.AreaLaws.{length-blocks}

@@ -11,8 +11,8 @@ use Rattle.states.specs.Chosen.{chosen}
 use Rattle.automaton.specs.Area.{Bounded}
 use Rattle.book.specs.Refusal.{refusal_by}
 use Rattle.book.specs.Book.{Book, WellFormed, graph}
-use Rattle.book.specs.BookLaws.{reading-is-book}
-use Rattle.book.specs.TableLaws.{book-weights}
+use Rattle.book.proofs.BookLaws.{reading-is-book}
+use Rattle.book.proofs.TableLaws.{book-weights}
 use Rattle.book.specs.Reading.{accepted, reading}
 use Rattle.rules.specs.declared.Bound.{Bound}
 use Rattle.rules.specs.Area.{spelled}

@@ -6,7 +6,7 @@ use Rattle.lists.specs.Test.{true→T}
 use Rattle.walks.specs.Best.{Best, None}
 use Rattle.states.specs.Chosen.{chosen}
 use Rattle.book.specs.Book.{WellFormed, graph}
-use Rattle.book.specs.BookLaws.{reading-is-book, IsPath→is_path}
+use Rattle.book.proofs.BookLaws.{reading-is-book, IsPath→is_path}
 use Rattle.rules.specs.Binding.{known}
 use Rattle.trial_record.specs.declared.Record.{Record}
 use Rattle.trial_rules.specs.Trials.{Report, ForbiddenSet, step, Begin, begun, begin_refusal, state_after, accepted_of}

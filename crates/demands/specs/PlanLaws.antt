@@ -13,7 +13,7 @@ use Rattle.walks.specs.Best.{Feasible}
 use Rattle.states.specs.Chosen.{Decided}
 use Rattle.book.specs.Refusal.{refusal_by}
 use Rattle.book.specs.Book.{Book, WellFormed, graph}
-use Rattle.book.specs.BookLaws.{reading-is-book}
+use Rattle.book.proofs.BookLaws.{reading-is-book}
 use Rattle.book.specs.Reading.{accepted, reading, refusal_of, book_in}
 use Rattle.rules.specs.declared.Bound.{Bound}
 use Rattle.rules.specs.Binding.{known}

@@ -11,7 +11,7 @@ use Rattle.states.proofs.Chosen.{chosen_is}
 use Rattle.book.specs.declared.Refusal.{Refusal}
 use Rattle.book.specs.Refusal.{test, refusal_by}
 use Rattle.book.specs.Book.{Book, WellFormed, graph}
-use Rattle.book.specs.BookLaws.{reading-is-book}
+use Rattle.book.proofs.BookLaws.{reading-is-book}
 use Rattle.book.specs.Reading.{accepted, reading, book_in}
 use Rattle.rules.specs.declared.Bound.{Bound}
 use Rattle.rules.specs.Binding.{known}

@@ -17,7 +17,7 @@ use Rattle.book.specs.declared.Refusal.{Refusal}
 use Rattle.book.specs.declared.Refusal.TheVariants.{NotStanding}
 use Rattle.book.specs.Refusal.{number_of}
 use Rattle.book.specs.Book.{Book, RuleSet, All, IsArc, IsPath, all_paths, given, graph}
-use Rattle.book.specs.BookLaws.{reading-is-book, given_cons, all_map, all_left, all_right}
+use Rattle.book.proofs.BookLaws.{reading-is-book, given_cons, all_map, all_left, all_right}
 use Rattle.book.specs.Reading.{accepted, reading, book_in}
 use Rattle.book_bytes.specs.Bytes.{Keeps, bytes_of}
 use Rattle.book_bytes.specs.RoundTrip.{every_book_read}

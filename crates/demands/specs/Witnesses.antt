@@ -15,7 +15,7 @@ use Rattle.walks.specs.Stutter.{Stutters}
 use Rattle.book.specs.declared.Refusal.{Refusal}
 use Rattle.book.specs.declared.Refusal.TheVariants.{Ended, NotStanding}
 use Rattle.book.specs.Book.{RuleSet, is_path, are_vertices}
-use Rattle.book.specs.BookLaws.{is_path→IsPath}
+use Rattle.book.proofs.BookLaws.{is_path→IsPath}
 use Rattle.rules.specs.Binding.{covers, applied, once, known}
 use Rattle.trial_record.specs.declared.Record.{Record}
 use Rattle.trial_rules.specs.Trials.{Report, passed, failed, State, path_area, Valid, is_valid, is_record, is_forbidden_set, step}

@@ -6,9 +6,9 @@ use Rattle.std.proofs.Math.Option.{none}
 use Rattle.walks.specs.Best.{None}
 use Rattle.states.specs.Chosen.{chosen}
 use Rattle.book.specs.Refusal.{refusal_by}
-use Rattle.book.specs.RefusalLaws.{hold→none}
+use Rattle.book.proofs.RefusalLaws.{hold→none}
 use Rattle.book.specs.Book.{Book, IsPath, graph}
-use Rattle.book.specs.BookLaws.{all-member}
+use Rattle.book.proofs.BookLaws.{all-member}
 use Rattle.book.specs.Reading.{accepted, reading, book_in}
 use Rattle.rules.specs.Binding.{covers, applied, known}
 use Rattle.rules.specs.BindingLaws.{known-few, known-paths}

@@ -6,11 +6,11 @@ use Rattle.std.proofs.Math.Option.{none}
 use Rattle.walks.specs.Best.{None}
 use Rattle.walks.proofs.Best.{None-mono}
 use Rattle.book.specs.Book.{Book, IsPath, WellFormed, graph}
-use Rattle.book.specs.BookLaws.{reading-is-book, all-member}
+use Rattle.book.proofs.BookLaws.{reading-is-book, all-member}
 use Rattle.examples.specs.Books.{bytes_a, book_a, book-A, bytes_ways, book_ways, book-ways, bytes_shortcut, book_shortcut, book-shortcut}
 use Rattle.book.specs.Reading.{accepted, reading, refusal_of, book_in}
 use Rattle.book.specs.Refusal.{refusal_by}
-use Rattle.book.specs.RefusalLaws.{hold→none}
+use Rattle.book.proofs.RefusalLaws.{hold→none}
 use Rattle.examples.specs.Walks.{Plan, marks_0, marks_1, marks_2, marks_3, back, stay, lower_vertex, fewer-hops}
 use Rattle.rules.specs.Binding.{covers, applied, known}
 use Rattle.rules.specs.BindingLaws.{known-paths}

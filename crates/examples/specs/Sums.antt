@@ -11,9 +11,9 @@ use Rattle.book.specs.declared.Answer.TheVariants.{Read}
 use Rattle.book.specs.declared.Refusal.{Refusal}
 use Rattle.book.specs.declared.Refusal.TheVariants.{Truncated, Value}
 use Rattle.book.specs.Refusal.{number_of, refusal_by}
-use Rattle.book.specs.RefusalLaws.{hold→none}
+use Rattle.book.proofs.RefusalLaws.{hold→none}
 use Rattle.book.specs.Book.{Book, WellFormed, all_paths, graph, is_path, are_vertices}
-use Rattle.book.specs.BookLaws.{reading-is-book}
+use Rattle.book.proofs.BookLaws.{reading-is-book}
 use Rattle.book.specs.Reading.{accepted, reading, read_as}
 use Rattle.examples.specs.Books.{bytes_a, book_a, book-A, bytes_ways, book_ways, book-ways, bytes_shortcut, book_shortcut, book-shortcut, count-64, count-65, no_body}
 use Rattle.states.specs.Chosen.{chosen}

@@ -4,7 +4,8 @@ use mathlib.Core.List.{List}
 use mathlib.Core.Path.{◌≡◌, sym, ap}
 use Rattle.book.specs.declared.Refusal.{Refusal}
 use Rattle.book.specs.Refusal.{refusal_by}
-use Rattle.book.specs.RefusalLaws.{Fails, Hold, first-fails, hold→none}
+use Rattle.book.specs.RefusalLaws.{Fails, Hold}
+use Rattle.book.proofs.RefusalLaws.{first-fails, hold→none}
 use Rattle.book.specs.Book.{Book}
 use Rattle.trial_record.specs.declared.Record.{Record}
 use Rattle.judging.specs.declared.Judged.TheVariants.{Standing, Refused}

@@ -8,7 +8,8 @@ use lib.Dec.{eqb}
 use Rattle.walks.specs.Graph.{Graph}
 use Rattle.book.specs.declared.Refusal.{Refusal}
 use Rattle.book.specs.Refusal.{Test, test, all_hold}
-use Rattle.book.specs.RefusalLaws.{Fails, Hold, fails→not-all}
+use Rattle.book.specs.RefusalLaws.{Fails, Hold}
+use Rattle.book.proofs.RefusalLaws.{fails→not-all}
 use Rattle.trial_rules.specs.Trials.{State, none_stands, one_stands, number_tests, record_tests, is_record}
 
 -- where the tests before it hold, the last one decides

@@ -11,7 +11,7 @@ use Rattle.limits.specs.Limits.{most_vertices}
 use Rattle.lists.specs.Test.{and-true}
 use Rattle.book.specs.Refusal.{test_at, first_failure}
 use Rattle.book.specs.Book.{Book, WellFormed, given, proper_arc}
-use Rattle.book.specs.BookLaws.{arc-well_formed}
+use Rattle.book.proofs.BookLaws.{arc-well_formed}
 use Rattle.book.specs.Reading.{and_then, outcome, add_arc}
 use Rattle.listed.specs.declared.Arc.{Arc as Item}
 use Rattle.listed.specs.Listing.{arc_of, items, listing}

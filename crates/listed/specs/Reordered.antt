@@ -7,7 +7,7 @@ use Rattle.std.proofs.Math.Option.{Option, some}
 use Rattle.lists.specs.Test.{and-true, or_false}
 use Rattle.walks.specs.Graph.{Arc, Graph, is_some, weight_in, from_arcs}
 use Rattle.book.specs.Book.{All, PairsOnce, given}
-use Rattle.book.specs.BookLaws.{given_cons, other_pair}
+use Rattle.book.proofs.BookLaws.{given_cons, other_pair}
 
 pub all_reordered : {A : Type 0} (P : A → Type 0) {xs ys : List A} → Permᴰ xs ys → All P xs → All P ys
 all_reordered P Permᴰ.nil h = h

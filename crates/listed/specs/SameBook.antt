@@ -8,7 +8,7 @@ use Rattle.walks.specs.Graph.{Arc}
 use Rattle.book.specs.declared.Refusal.TheVariants.{Value, Repeated}
 use Rattle.book.specs.Refusal.{refusal_by}
 use Rattle.book.specs.Book.{Book, All, IsArc, PairsOnce, given, graph}
-use Rattle.book.specs.BookLaws.{reading-is-book, arc-passes, not-before}
+use Rattle.book.proofs.BookLaws.{reading-is-book, arc-passes, not-before}
 use Rattle.book.specs.Reading.{accepted, and_then, outcome, reading, add_arc, with_arc}
 use Rattle.rules.specs.Area.{spelled}
 use Rattle.planner.specs.declared.Outcome.{Outcome}

@@ -8,7 +8,7 @@ use Rattle.walks.specs.Graph.{Arc}
 use Rattle.book.specs.declared.Refusal.{Refusal}
 use Rattle.book.specs.declared.Refusal.TheVariants.{Value, Repeated}
 use Rattle.book.specs.Book.{Book, WellFormed, all_paths, given, proper_arc}
-use Rattle.book.specs.BookLaws.{arc-well_formed}
+use Rattle.book.proofs.BookLaws.{arc-well_formed}
 use Rattle.book.specs.Reading.{Reading, accepted, refused, and_then, outcome, verdict_of, add_arc, with_arc, kept}
 use Rattle.book.specs.Tables.{IsGraph, Enters, entered, weight_table}
 use Rattle.limits.specs.Limits.{pairs, no_arc, most_vertices}

@@ -7,9 +7,10 @@ use Rattle.std.proofs.Common.{◌∙◌, arith}
 use Rattle.std.proofs.Math.ListN.{length, drop, replicate, take-append-drop, length-map}
 use Rattle.std.proofs.lemmas.List.{length-replicate}
 use Rattle.book.specs.Book.{All, IsPath}
-use Rattle.book.specs.BookLaws.{all_map, all-member}
+use Rattle.book.proofs.BookLaws.{all_map, all-member}
 use Rattle.book.specs.Tables.{entries}
-use Rattle.book.specs.EntryLaws.{Short, entries_induction}
+use Rattle.book.specs.EntryLaws.{Short}
+use Rattle.book.proofs.EntryLaws.{entries_induction}
 use Rattle.rules.specs.Area.{spelled, blocks}
 use Rattle.limits.specs.Limits.{area_size}
 use Rattle.rules.specs.AreaLaws.{length-blocks}

@@ -8,7 +8,8 @@ use Rattle.book.specs.declared.Refusal.{Refusal}
 use Rattle.book.specs.Book.{Book, graph}
 use Rattle.book.specs.Reading.{accepted}
 use Rattle.book.specs.Refusal.{refusal_by}
-use Rattle.book.specs.RefusalLaws.{Fails, Hold, first-fails, hold→none}
+use Rattle.book.specs.RefusalLaws.{Fails, Hold}
+use Rattle.book.proofs.RefusalLaws.{first-fails, hold→none}
 use Rattle.rules.specs.Area.{spelled}
 use Rattle.ends.specs.Ends.{ends}
 use Rattle.reach.specs.declared.Reached.{Reached}

@@ -6,12 +6,13 @@ use native.Mathlib.Omega.{arith}
 use lib.ListN.{length, take, drop, replicate, length-append}
 use lib.Seq.{paste, get_or-append_seam}
 use Rattle.book.specs.Book.{All}
-use Rattle.book.specs.BookLaws.{all_snoc}
+use Rattle.book.proofs.BookLaws.{all_snoc}
 use Rattle.book.specs.Tables.{padded, entry, entries}
 use Rattle.rules.specs.Binding.{member}
 use Rattle.rules.specs.Area.{written, blocks}
 use Rattle.limits.specs.Limits.{area_size}
-use Rattle.book.specs.EntryLaws.{Short, length-padded, length-entry, entries_snoc, length-entries}
+use Rattle.book.specs.EntryLaws.{Short}
+use Rattle.book.proofs.EntryLaws.{length-padded, length-entry, entries_snoc, length-entries}
 use Rattle.rules.specs.AreaLaws.{padded-zeros, padded-paste, entry-at, member-entry, blocks-entries}
 
 module _ (F : List (List ℕ)) (short : All Short F) where

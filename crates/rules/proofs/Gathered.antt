@@ -9,13 +9,14 @@ use native.Mathlib.Omega.{arith}
 use lib.ListN.{length, get_or, take, drop, replicate, length-append, drop_of_length-le, take-append-drop}
 use lib.Seq.{paste, drop-cons, get_or-drop, drop-drop}
 use Rattle.book.specs.Book.{RuleSet, Book, All, all_paths}
-use Rattle.book.specs.BookLaws.{all_snoc}
-use Rattle.book.specs.Loaded.{sets-short}
+use Rattle.book.proofs.BookLaws.{all_snoc}
+use Rattle.book.proofs.Loaded.{sets-short}
 use Rattle.book.specs.Tables.{IsSets, entry, entries, flags_of, owners_from, owner_table}
 use Rattle.rules.specs.Binding.{covers, applied, member, add, known}
 use Rattle.rules.specs.Area.{written, blocks}
 use Rattle.limits.specs.Limits.{area_size}
-use Rattle.book.specs.EntryLaws.{Short, length_owners}
+use Rattle.book.specs.EntryLaws.{Short}
+use Rattle.book.proofs.EntryLaws.{length_owners}
 use Rattle.rules.specs.AreaLaws.{entry-at, member-entry}
 use Rattle.rules.proofs.Entered.{blocks-written, entry-entered}
 

@@ -12,7 +12,7 @@ use lib.Seq.{paste, drop-cons, take_all}
 use Rattle.lists.specs.Test.{all}
 use Rattle.walks.specs.Avoid.{same}
 use Rattle.book.specs.Book.{All}
-use Rattle.book.specs.BookLaws.{all_snoc}
+use Rattle.book.proofs.BookLaws.{all_snoc}
 use Rattle.book.specs.Tables.{entries}
 use Rattle.rules.specs.Binding.{member, once}
 use Rattle.rules.specs.Area.{written, blocks, path_of, spelled, is_entry, valid}

@@ -6,7 +6,8 @@ use Rattle.std.proofs.Math.Seq.{paste, take-append_seam, drop-append-add}
 use Rattle.limits.specs.Limits.{entry_size, longest_path}
 use Rattle.book.specs.Book.{All}
 use Rattle.book.specs.Tables.{padded, entry, entries}
-use Rattle.book.specs.EntryLaws.{Short, length-entry}
+use Rattle.book.specs.EntryLaws.{Short}
+use Rattle.book.proofs.EntryLaws.{length-entry}
 use Rattle.rules.specs.Binding.{member}
 use Rattle.rules.specs.Area.{blocks, path_of, spelled}
 use Rattle.rules.specs.Sets.{same-iff}

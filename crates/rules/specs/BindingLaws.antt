@@ -6,7 +6,7 @@ use Rattle.std.proofs.Math.Path.{refl}
 use Rattle.std.proofs.Common.{arith, length-append}
 use Rattle.limits.specs.Limits.{most_paths}
 use Rattle.book.specs.Book.{RuleSet, Book, All, IsPath, WellFormed, all_paths}
-use Rattle.book.specs.BookLaws.{all_map, all_append, all_left, all_right}
+use Rattle.book.proofs.BookLaws.{all_map, all_append, all_left, all_right}
 use Rattle.rules.specs.Binding.{applies, applied, known, once}
 use Rattle.book.specs.EntryLaws.{Short}
 use Rattle.rules.specs.Sets.{distinct-once, distinct-length, distinct-all}

@@ -12,7 +12,7 @@ use Rattle.walks.specs.Avoid.{◌⊆◌}
 use Rattle.book.specs.declared.Refusal.{Refusal}
 use Rattle.book.specs.Refusal.{refusal_by}
 use Rattle.book.specs.Book.{RuleSet, Book, WellFormed, All, IsPath}
-use Rattle.book.specs.BookLaws.{reading-is-book}
+use Rattle.book.proofs.BookLaws.{reading-is-book}
 use Rattle.book.specs.Reading.{Reading, reading}
 use Rattle.rules.specs.Binding.{applies, applied, known, once}
 use Rattle.rules.specs.Area.{written, spelled, valid}

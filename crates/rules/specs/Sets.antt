@@ -9,7 +9,7 @@ use Rattle.lists.specs.Test.{T→true, true→T, and-true, any→some, some→an
 use Rattle.walks.specs.Avoid.{is_prefix, same}
 use Rattle.walks.proofs.Avoid.{same→≡, same_refl}
 use Rattle.book.specs.Book.{All}
-use Rattle.book.specs.BookLaws.{all_snoc}
+use Rattle.book.proofs.BookLaws.{all_snoc}
 use Rattle.rules.specs.Binding.{member, add, once}
 
 -- ---- tests

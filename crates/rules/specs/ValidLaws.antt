@@ -8,12 +8,13 @@ use Rattle.std.proofs.Math.Seq.{take_at}
 use Rattle.lists.specs.Test.{all, and-true}
 use Rattle.walks.specs.Avoid.{same}
 use Rattle.book.specs.Book.{All, IsPath, is_path}
-use Rattle.book.specs.BookLaws.{is_path→IsPath, IsPath→is_path, all_map}
+use Rattle.book.proofs.BookLaws.{is_path→IsPath, IsPath→is_path, all_map}
 use Rattle.book.specs.Tables.{entry, entries}
 use Rattle.rules.specs.Binding.{once}
 use Rattle.rules.specs.Area.{written, blocks, path_of, spelled, is_entry, valid}
 use Rattle.limits.specs.Limits.{area_size, longest_path, most_paths}
-use Rattle.book.specs.EntryLaws.{Short, length-padded, length-entries}
+use Rattle.book.specs.EntryLaws.{Short}
+use Rattle.book.proofs.EntryLaws.{length-padded, length-entries}
 use Rattle.rules.specs.AreaLaws.{path-of-entry, blocks-entries, spelled-entries}
 use Rattle.rules.specs.Sets.{same_true, true_same}
 

@@ -7,7 +7,7 @@ use Rattle.std.proofs.Common.{◌∙◌}
 use Rattle.states.specs.Chosen.{chosen}
 use Rattle.book.specs.declared.Refusal.{Refusal}
 use Rattle.book.specs.Book.{Book, graph}
-use Rattle.book.specs.BookLaws.{reading-is-book}
+use Rattle.book.proofs.BookLaws.{reading-is-book}
 use Rattle.book.specs.Reading.{accepted, reading}
 use Rattle.trial_record.specs.declared.Record.{Record}
 use Rattle.trials.specs.declared.Begun.{Begun}

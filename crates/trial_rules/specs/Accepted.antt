@@ -8,7 +8,8 @@ use Rattle.std.proofs.lemmas.List.{length-replicate}
 use Rattle.lists.specs.Test.{T→true, true→T}
 use Rattle.walks.specs.Graph.{Graph}
 use Rattle.book.specs.Refusal.{Test, test, refusal_by}
-use Rattle.book.specs.RefusalLaws.{Hold, none→hold, hold→none, first-of_append}
+use Rattle.book.specs.RefusalLaws.{Hold}
+use Rattle.book.proofs.RefusalLaws.{none→hold, hold→none, first-of_append}
 use Rattle.limits.specs.Limits.{area_size, longest}
 use Rattle.trial_rules.specs.Trials.{Report, State, path_area, area_tests, begin_tests, oracle_tests, state_tests, is_named, has_room, refusal, Valid, is_valid, Begin}
 use Rattle.trial_rules.specs.Tests.{is_valid→Valid, Valid→is_valid}

@@ -15,7 +15,8 @@ use Rattle.walks.specs.Best.{Best, None}
 use Rattle.walks.proofs.Best.{Best-not-None}
 use Rattle.book.specs.declared.Refusal.{Refusal}
 use Rattle.book.specs.Refusal.{numbered, refusal_by}
-use Rattle.book.specs.RefusalLaws.{Fails, here, later, first-fails}
+use Rattle.book.specs.RefusalLaws.{Fails, here, later}
+use Rattle.book.proofs.RefusalLaws.{first-fails}
 use Rattle.book.specs.Book.{is_path}
 use Rattle.rules.specs.Area.{written}
 use Rattle.limits.specs.Limits.{area_size}

@@ -17,8 +17,8 @@ use Rattle.walks.specs.Feasible.{is_feasible}
 use Rattle.walks.proofs.Feasible.{is_feasible→Feasible, Feasible→is_feasible}
 use Rattle.book.specs.Book.{All, IsPath, is_path}
 use Rattle.book.specs.Refusal.{all_hold}
-use Rattle.book.specs.RefusalLaws.{hold→all, all→hold}
-use Rattle.book.specs.BookLaws.{is_path→IsPath, IsPath→is_path, all-member}
+use Rattle.book.proofs.RefusalLaws.{hold→all, all→hold}
+use Rattle.book.proofs.BookLaws.{is_path→IsPath, IsPath→is_path, all-member}
 use Rattle.rules.specs.Binding.{once}
 use Rattle.rules.specs.Sets.{member→Mem, Mem→member}
 use Rattle.limits.specs.Limits.{most_paths}

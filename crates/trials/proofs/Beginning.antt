@@ -11,7 +11,8 @@ use Rattle.states.specs.Chosen.{chosen}
 use Rattle.book.specs.declared.Refusal.{Refusal}
 use Rattle.book.specs.Book.{Book, WellFormed, graph}
 use Rattle.book.specs.Reading.{accepted}
-use Rattle.book.specs.RefusalLaws.{Fails, Hold, first-fails, hold→none}
+use Rattle.book.specs.RefusalLaws.{Fails, Hold}
+use Rattle.book.proofs.RefusalLaws.{first-fails, hold→none}
 use Rattle.rules.specs.Area.{written, spelled}
 use Rattle.rules.specs.Binding.{known}
 use Rattle.rules.specs.Laws.{gathered_length, gathered_spells}

@@ -14,10 +14,11 @@ use Rattle.walks.specs.Avoid.{occurs}
 use Rattle.states.specs.Chosen.{chosen}
 use Rattle.book.specs.declared.Refusal.{Refusal}
 use Rattle.book.specs.Refusal.{refusal_by}
-use Rattle.book.specs.RefusalLaws.{Fails, Hold, first-fails, hold→none, first-kept, first-of_append}
+use Rattle.book.specs.RefusalLaws.{Fails, Hold}
+use Rattle.book.proofs.RefusalLaws.{first-fails, hold→none, first-kept, first-of_append}
 use Rattle.book.specs.Book.{Book, WellFormed, IsPath, is_path, graph}
-use Rattle.book.specs.BookLaws.{all_map, is_path→IsPath}
-use Rattle.book.specs.EntryLaws.{length-entries, entries_snoc}
+use Rattle.book.proofs.BookLaws.{all_map, is_path→IsPath}
+use Rattle.book.proofs.EntryLaws.{length-entries, entries_snoc}
 use Rattle.book.specs.Reading.{accepted}
 use Rattle.book.specs.Tables.{entries, padded}
 use Rattle.book.proofs.Padded.{padded-entry}

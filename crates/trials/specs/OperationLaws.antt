@@ -10,7 +10,7 @@ use Rattle.std.proofs.lemmas.List.{length-map}
 use Rattle.lists.specs.Test.{T→true, true→T, and-true}
 use Rattle.walks.specs.Graph.{Graph}
 use Rattle.book.specs.Refusal.{test, refusal_by}
-use Rattle.book.specs.RefusalLaws.{none→hold}
+use Rattle.book.proofs.RefusalLaws.{none→hold}
 use Rattle.book.specs.Book.{Book, graph}
 use Rattle.book.specs.Reading.{accepted}
 use Rattle.rules.specs.Area.{written, blocks, spelled, valid}

@@ -8,7 +8,7 @@ use Rattle.walks.proofs.Walk.{hops-length}
 use Rattle.states.specs.Chosen.{Decided, chosen}
 use Rattle.states.proofs.Chosen.{chosen_is}
 use Rattle.book.specs.Book.{Book, WellFormed, graph}
-use Rattle.book.specs.BookLaws.{is_path→IsPath}
+use Rattle.book.proofs.BookLaws.{is_path→IsPath}
 use Rattle.rules.specs.Binding.{known}
 use Rattle.rules.specs.BindingLaws.{known-few, known-paths, known-once}
 use Rattle.routes.specs.declared.Found.{Found}

@@ -7,7 +7,8 @@ use Rattle.book.specs.declared.Refusal.{Refusal}
 use Rattle.book.specs.Book.{Book}
 use Rattle.book.specs.Reading.{accepted, refused, reading}
 use Rattle.book.specs.Refusal.{refusal_by}
-use Rattle.book.specs.RefusalLaws.{Fails, Hold, first-fails, hold→none}
+use Rattle.book.specs.RefusalLaws.{Fails, Hold}
+use Rattle.book.proofs.RefusalLaws.{first-fails, hold→none}
 use Rattle.walk_check.specs.declared.Checked.TheVariants.{Refused}
 use Rattle.rules.specs.Area.{spelled}
 use Rattle.walk_check.specs.Checking.{occurrence}

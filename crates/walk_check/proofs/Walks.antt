@@ -11,7 +11,7 @@ use lib.Seq.{drop-cons}
 use Rattle.walks.specs.Graph.{is_arc}
 use Rattle.walks.specs.Walk.{is_walk, is_walk_from}
 use Rattle.book.specs.Book.{Book, WellFormed, graph}
-use Rattle.book.specs.TableLaws.{marked→free, unmarked→given}
+use Rattle.book.proofs.TableLaws.{marked→free, unmarked→given}
 use Rattle.book.specs.Tables.{weight_table}
 use Rattle.limits.specs.Limits.{no_arc, longest}
 use Rattle.walk_check.specs.Checking.{checkable}

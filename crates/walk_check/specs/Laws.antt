@@ -7,7 +7,7 @@ use Rattle.std.proofs.Math.Option.{Option, none, some}
 use Rattle.walks.specs.Avoid.{Avoids}
 use Rattle.book.specs.declared.Refusal.{Refusal}
 use Rattle.book.specs.Refusal.{Test, test, refusal_by}
-use Rattle.book.specs.RefusalLaws.{none→hold, hold→none, first-of_append}
+use Rattle.book.proofs.RefusalLaws.{none→hold, hold→none, first-of_append}
 use Rattle.book.specs.Book.{Book, All, IsPath, graph}
 use Rattle.book.specs.Reading.{Reading, reading, refusal_of}
 use Rattle.walk_check.specs.declared.Checked.TheVariants.{Clear}

@@ -1,8 +1,9 @@
 -- `answer_book` meets its contract: the book's refusal, or the answer in the book that was read.
 use borrow.Author.Rules.{rules}
 use mathlib.Core.Path.{refl, sym, subst, ◌∙◌}
-use Rattle.book.specs.BookLaws.{answer-refused}
-use Rattle.book.specs.Loaded.{Loaded, loaded, sets-entries}
+use Rattle.book.proofs.BookLaws.{answer-refused}
+use Rattle.book.specs.Loaded.{Loaded}
+use Rattle.book.proofs.Loaded.{loaded, sets-entries}
 use Rattle.book.specs.Reading.{reading}
 use Rattle.text.specs.Text.{refusal_text}
 use Rattle.answer.specs.Answer.{AnsweredOf}

@@ -1,8 +1,9 @@
 -- `board_book` meets its contract: the book's refusal, or the lines of the book that was read.
 use borrow.Author.Rules.{rules}
 use mathlib.Core.Path.{sym, ap, ◌∙◌}
-use Rattle.book.specs.BookLaws.{answer-refused}
-use Rattle.book.specs.Loaded.{Loaded, loaded, sets-entries}
+use Rattle.book.proofs.BookLaws.{answer-refused}
+use Rattle.book.specs.Loaded.{Loaded}
+use Rattle.book.proofs.Loaded.{loaded, sets-entries}
 use Rattle.book.specs.Reading.{reading}
 use Rattle.text.specs.Writing.{wrote_as}
 use Rattle.board_text.specs.Board.{board_of}

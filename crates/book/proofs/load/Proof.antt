@@ -8,7 +8,7 @@ use Rattle.book.specs.declared.Answer.TheVariants.{Read}
 use Rattle.book.specs.declared.Counts.{Counts}
 use Rattle.book.specs.Book.{counts}
 use Rattle.book.specs.Reading.{read_as, reading}
-use Rattle.book.specs.Loaded.{sets-entries}
+use Rattle.book.proofs.Loaded.{sets-entries}
 use Rattle.book.specs.Tables.{IsLoaded}
 use Rattle.book.proofs.Loop.{Reached, nothing, started, finished, stopped, within, onward, not-both, same-book}
 use Rattle.book.proofs.load.Statement.{statement}

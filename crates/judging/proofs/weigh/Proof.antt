@@ -6,7 +6,7 @@ use native.Mathlib.Omega.{arith}
 use lib.ListN.{length, get_or}
 use Rattle.walks.specs.Walk.{is_walk}
 use Rattle.book.specs.Book.{Book, graph}
-use Rattle.book.specs.Loaded.{graph-weights}
+use Rattle.book.proofs.Loaded.{graph-weights}
 use Rattle.book.specs.Tables.{IsGraph}
 use Rattle.judging.proofs.Weighing.{Weighed, nonempty, start-weighed, next-weighed, next-below, entry-light, end-weighed}
 use borrow.Author.Rules.{rules}

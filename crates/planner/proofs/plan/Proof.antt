@@ -1,9 +1,10 @@
 -- `plan` meets its contract: the book's refusal, or planning in the book that was read.
 use borrow.Author.Rules.{rules}
 use mathlib.Core.Path.{refl, sym, subst, ◌∙◌}
-use Rattle.book.specs.BookLaws.{answer-refused}
+use Rattle.book.proofs.BookLaws.{answer-refused}
 use Rattle.book.specs.Reading.{reading}
-use Rattle.book.specs.Loaded.{Loaded, loaded}
+use Rattle.book.specs.Loaded.{Loaded}
+use Rattle.book.proofs.Loaded.{loaded}
 use Rattle.planner.specs.declared.Outcome.TheVariants.{Refused}
 use Rattle.planner.specs.Planning.{PlanningOf}
 use Rattle.planner.proofs.plan.Statement.{statement}

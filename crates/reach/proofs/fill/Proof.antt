@@ -2,7 +2,7 @@
 use borrow.Author.Rules.{rules}
 use mathlib.Core.Path.{sym}
 use Rattle.book.specs.Book.{graph}
-use Rattle.book.specs.Loaded.{graph-few, graph-weights}
+use Rattle.book.proofs.Loaded.{graph-few, graph-weights}
 use Rattle.rules.specs.Area.{spelled}
 use Rattle.rules.specs.ValidLaws.{valid→Valid}
 use Rattle.planner.specs.ValidArea.{valid-spells, valid-bounded, valid-given}

@@ -1,8 +1,9 @@
 -- `reach` meets its contract: the book's refusal, or the operation in the book that was read.
 use mathlib.Core.Path.{refl, sym, subst, ◌∙◌}
-use Rattle.book.specs.BookLaws.{answer-refused}
+use Rattle.book.proofs.BookLaws.{answer-refused}
 use Rattle.book.specs.Reading.{reading}
-use Rattle.book.specs.Loaded.{Loaded, loaded}
+use Rattle.book.specs.Loaded.{Loaded}
+use Rattle.book.proofs.Loaded.{loaded}
 use Rattle.reach.specs.declared.Reached.TheVariants.{Refused}
 use Rattle.reach.specs.Reaching.{Reaching}
 use borrow.Author.Rules.{rules}

@@ -3,8 +3,9 @@ use mathlib.Core.Path.{◌≡◌, refl, sym, ◌∙◌}
 use lib.ListN.{length}
 use Rattle.rules.specs.Area.{written}
 use Rattle.rules.specs.Binding.{known}
-use Rattle.book.specs.BookLaws.{answer-refused}
-use Rattle.book.specs.Loaded.{Loaded, loaded, sets-entries}
+use Rattle.book.proofs.BookLaws.{answer-refused}
+use Rattle.book.specs.Loaded.{Loaded}
+use Rattle.book.proofs.Loaded.{loaded, sets-entries}
 use Rattle.rules.proofs.Binds.{bind-refused, bind_small, bind-known}
 use borrow.Author.Rules.{rules}
 use Rattle.rules.proofs.bind.Statement.{statement}

@@ -7,8 +7,9 @@ use Rattle.book.specs.Book.{graph}
 use Rattle.rules.specs.Area.{valid}
 use Rattle.walk_check.specs.Checking.{checkable}
 use Rattle.rules.specs.ValidLaws.{valid-fits}
-use Rattle.book.specs.BookLaws.{answer-refused}
-use Rattle.book.specs.Loaded.{Loaded, loaded}
+use Rattle.book.proofs.BookLaws.{answer-refused}
+use Rattle.book.specs.Loaded.{Loaded}
+use Rattle.book.proofs.Loaded.{loaded}
 use Rattle.book.specs.RefusalLaws.{here, later}
 use Rattle.walk_check.proofs.Checks.{check-refused, check-fails, check_done}
 use borrow.Author.Rules.{rules}

@@ -8,7 +8,7 @@ use Prim.Native.Nat.{◌+◌, ◌*◌, ◌<◌}
 use Rattle.limits.specs.Limits.{most_vertices, pairs}
 use Rattle.walks.specs.Graph.{Arc}
 use Rattle.book.specs.Book.{IsArc, proper_arc}
-use Rattle.book.specs.BookLaws.{is-arc}
+use Rattle.book.proofs.BookLaws.{is-arc}
 use Rattle.book.proofs.ArcField.{arc_improper, arc-repeated, arc-added}
 use Rattle.book.proofs.field.enter_arc.Statement.{statement}
 use Rattle.book.proofs.field.enter_arc.Tie as tie

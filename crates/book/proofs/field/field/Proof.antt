@@ -9,7 +9,7 @@ use Rattle.book.specs.declared.Kind.{Kind}
 use Rattle.book.specs.declared.Kind.TheVariants.{VertexCount, Arc, RuleSet, Path, Unknown}
 use Rattle.lists.specs.Test.{and-true}
 use Rattle.book.specs.Book.{Book, counts}
-use Rattle.book.specs.BookLaws.{not-zero}
+use Rattle.book.proofs.BookLaws.{not-zero}
 use Rattle.book.specs.Reading.{read_as, length_at, taken, kept, field}
 use Rattle.book.specs.Tables.{IsLoaded}
 use Rattle.book.proofs.Fields.{Framed, framed-passed, field-refused, field-taken, with_count_lem, with_arc_lem, with_set, with_path}

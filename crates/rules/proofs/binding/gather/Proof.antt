@@ -6,7 +6,7 @@ use native.Mathlib.Omega.{arith}
 use borrow.Author.Tests.{not-true, not-false}
 use lib.ListN.{length, get_or, length-replicate}
 use Rattle.book.specs.Book.{Book}
-use Rattle.book.specs.Loaded.{sets-few, sets_owners, sets-entries}
+use Rattle.book.proofs.Loaded.{sets-few, sets_owners, sets-entries}
 use Rattle.book.specs.Tables.{IsSets}
 use Rattle.rules.specs.Binding.{covers}
 use Rattle.limits.specs.Limits.{most_paths, most_sets, area_size}

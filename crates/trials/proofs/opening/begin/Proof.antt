@@ -1,8 +1,9 @@
 -- `opening::begin` meets its contract: the book's refusal, or begin in the book that was read.
 use borrow.Author.Rules.{rules}
 use mathlib.Core.Path.{sym, ap, ◌∙◌}
-use Rattle.book.specs.BookLaws.{answer-refused}
-use Rattle.book.specs.Loaded.{Loaded, loaded, sets-entries}
+use Rattle.book.proofs.BookLaws.{answer-refused}
+use Rattle.book.specs.Loaded.{Loaded}
+use Rattle.book.proofs.Loaded.{loaded, sets-entries}
 use Rattle.book.specs.Reading.{reading}
 use Rattle.trials.specs.Operations.{beginning_of}
 use Rattle.trials.proofs.opening.begin.Statement.{statement}

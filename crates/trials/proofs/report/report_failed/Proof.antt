@@ -1,9 +1,10 @@
 -- `trials::report_failed` meets its contract: the book's refusal, or the report in the book that was read.
 use borrow.Author.Rules.{rules}
 use mathlib.Core.Path.{sym, ap, ◌∙◌}
-use Rattle.book.specs.BookLaws.{answer-refused}
+use Rattle.book.proofs.BookLaws.{answer-refused}
 use Rattle.book.specs.Reading.{reading}
-use Rattle.book.specs.Loaded.{Loaded, loaded}
+use Rattle.book.specs.Loaded.{Loaded}
+use Rattle.book.proofs.Loaded.{loaded}
 use Rattle.trial_rules.specs.Trials.{failed}
 use Rattle.trials.specs.Operations.{reporting_of}
 use Rattle.trials.proofs.report.report_failed.Statement.{statement}

@@ -5,7 +5,7 @@ use native.Mathlib.Omega.{arith}
 use lib.ListN.{length, drop}
 use Rattle.walks.specs.Walk.{is_walk, is_walk_from}
 use Rattle.book.specs.Book.{Book, graph}
-use Rattle.book.specs.Loaded.{graph-few}
+use Rattle.book.proofs.Loaded.{graph-few}
 use Rattle.book.specs.Tables.{IsGraph}
 use Rattle.walk_check.proofs.Walks.{too_long, only-walk, empty, first-high, first-low, none_left, next-high, next_apart, next_joined}
 use borrow.Author.Rules.{rules}
