@@ -13,7 +13,7 @@ use Rattle.book.specs.Reading.{accepted, reading, u16_at}
 use Rattle.book.specs.Refusal.{numbered, test, refusal_by}
 use Rattle.book.proofs.TableLaws.{book-weights}
 use Rattle.rules.specs.Binding.{known}
-use Rattle.rules.specs.BindingLaws.{known-few, known-short}
+use Rattle.rules.proofs.BindingLaws.{known-few, known-short}
 use Rattle.text.specs.Text.{refusal_text}
 use Rattle.text.specs.Writing.{Wrote, wrote-front, front-size, front-within}
 use Rattle.ends.specs.Ends.{ends}

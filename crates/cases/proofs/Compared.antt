@@ -6,7 +6,7 @@ use native.Mathlib.Omega.{arith}
 use Rattle.book.specs.declared.Number.{Number}
 use Rattle.book.specs.declared.Refusal.{Refusal}
 use Rattle.book.specs.Refusal.{number_of, numbered}
-use Rattle.rules.specs.Numbers.{refusal-again}
+use Rattle.rules.proofs.Numbers.{refusal-again}
 use Rattle.trial_record.specs.declared.Record.{Record}
 use Rattle.trials.specs.declared.Begun.{Begun}
 use Rattle.cases.specs.Same.{Tells}

@@ -15,11 +15,12 @@ use Rattle.book.proofs.BookLaws.{reading-is-book}
 use Rattle.book.specs.Reading.{Reading, accepted, reading, read_as, refusal_of, book_in}
 use Rattle.rules.specs.Binding.{known}
 use Rattle.rules.specs.Area.{blocks, spelled}
-use Rattle.rules.specs.AreaLaws.{length-blocks}
-use Rattle.rules.specs.ValidLaws.{Valid, valid→Valid}
+use Rattle.rules.proofs.AreaLaws.{length-blocks}
+use Rattle.rules.specs.ValidLaws.{Valid}
+use Rattle.rules.proofs.ValidLaws.{valid→Valid}
 use Rattle.rules.specs.Operations.{Binding, bound_unless, bind_tests, bound_as, binding_of, binding, area_after}
-use Rattle.rules.specs.Laws.{bind-accepted}
-use Rattle.walk_check.specs.Laws.{sizes}
+use Rattle.rules.proofs.Laws.{bind-accepted}
+use Rattle.walk_check.proofs.Laws.{sizes}
 use Rattle.walk_check.specs.Checking.{checked_unless, occurrence, check_tests, checking}
 use Rattle.planner.specs.declared.Outcome.{Outcome}
 use Rattle.planner.specs.Planning.{plan_tests, Planned, PlanningOf}

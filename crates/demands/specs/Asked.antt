@@ -17,8 +17,9 @@ use Rattle.book.specs.Book.{Book, graph, IsPath, is_path}
 use Rattle.book.proofs.BookLaws.{is_path→IsPath, IsPath→is_path}
 use Rattle.book.specs.Reading.{Reading, accepted, refused, refusal_of}
 use Rattle.rules.specs.Area.{written, blocks, spelled, valid}
-use Rattle.rules.specs.AreaLaws.{length-blocks}
-use Rattle.rules.specs.ValidLaws.{Valid, valid→Valid, written-valid}
+use Rattle.rules.proofs.AreaLaws.{length-blocks}
+use Rattle.rules.specs.ValidLaws.{Valid}
+use Rattle.rules.proofs.ValidLaws.{valid→Valid, written-valid}
 use Rattle.rules.specs.Operations.{bind_tests}
 use Rattle.walk_check.specs.Checking.{check_tests}
 use Rattle.planner.specs.Planning.{plan_tests}

@@ -5,7 +5,7 @@ use Rattle.std.proofs.Math.Option.{none, some, none-ne-some}
 use Rattle.lists.specs.Test.{and-true}
 use Rattle.book.specs.declared.Refusal.{Refusal}
 use Rattle.book.specs.Refusal.{Test, number_of, numbered, first_failure}
-use Rattle.rules.specs.Numbers.{refusal-again}
+use Rattle.rules.proofs.Numbers.{refusal-again}
 
 -- What is asked, and the refusal's number where it is not so.
 pub record Condition : Type 1 where

@@ -19,7 +19,7 @@ use Rattle.book.specs.Refusal.{Test, numbered, first_failure}
 use Rattle.book.specs.Book.{Book, RuleSet, All, IsArc, blank, all_paths, given, proper_arc}
 use Rattle.book.proofs.BookLaws.{is-arc, arc-passes, vertices-below, below-vertices, given_cons, not-zero}
 use Rattle.book.specs.Reading.{accepted, refused, reading, and_then, outcome, fields, field, framing, content, extended, kind_at, length_at, end_at, count_at, arc_at, path_at, follows, fits, proper, fresh, room, add_arc, arc_tests}
-use Rattle.rules.specs.Sets.{refuted}
+use Rattle.rules.proofs.Sets.{refuted}
 use Rattle.listed.specs.declared.Arc.{Arc as Item}
 use Rattle.listed.specs.Listing.{arc_of, counting, items, listing}
 use Rattle.demands.specs.Conditions.{Condition, asks, AllHold, HasNumber, one-refusal, FirstFails, Decides, first-none, first_some, le_iff, lt_iff, eq_iff, and-iff, zero_one}

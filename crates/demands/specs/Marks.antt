@@ -9,7 +9,7 @@ use Rattle.lists.specs.Test.{and-true}
 use Rattle.walks.specs.Avoid.{Occurs}
 use Rattle.book.specs.Book.{RuleSet, Book}
 use Rattle.rules.specs.Binding.{covers, applies, known}
-use Rattle.rules.specs.Laws.{known→Applied, Applied→known}
+use Rattle.rules.proofs.Laws.{known→Applied, Applied→known}
 
 -- Bit i of a word (01: marks are a 16-bit word; bit 0 summer, bit 1 export, the others the site's own).
 abbrev pub bit : ℕ → ℕ → ℕ

@@ -19,7 +19,7 @@ use Rattle.rules.specs.declared.Bound.{Bound}
 use Rattle.rules.specs.Binding.{known}
 use Rattle.rules.specs.Area.{spelled}
 use Rattle.rules.specs.Operations.{bound_as, binding, area_after}
-use Rattle.rules.specs.Laws.{bind-accepted}
+use Rattle.rules.proofs.Laws.{bind-accepted}
 use Rattle.routes.specs.Plan.{PlannedWalk}
 use Rattle.planner.specs.declared.Outcome.{Outcome}
 use Rattle.planner.specs.Planning.{plan_tests, Planned, PlanningOf, Planning}

@@ -17,8 +17,8 @@ use Rattle.rules.specs.declared.Bound.{Bound}
 use Rattle.rules.specs.Binding.{known}
 use Rattle.rules.specs.Area.{spelled, valid}
 use Rattle.rules.specs.Operations.{bound_as, binding, area_after}
-use Rattle.rules.specs.Laws.{bind-accepted}
-use Rattle.walk_check.specs.Laws.{sizes}
+use Rattle.rules.proofs.Laws.{bind-accepted}
+use Rattle.walk_check.proofs.Laws.{sizes}
 use Rattle.planner.specs.declared.Outcome.{Outcome}
 use Rattle.planner.specs.Planning.{Planning}
 use Rattle.planner.specs.RuleSets.{SameWalks, equal-plans}

@@ -16,8 +16,8 @@ use Rattle.rules.specs.declared.Bound.{Bound}
 use Rattle.rules.specs.Binding.{known}
 use Rattle.rules.specs.Area.{written, spelled}
 use Rattle.rules.specs.Operations.{bound_as, binding}
-use Rattle.rules.specs.Laws.{same_set}
-use Rattle.rules.specs.ValidLaws.{written-length, written-spells}
+use Rattle.rules.proofs.Laws.{same_set}
+use Rattle.rules.proofs.ValidLaws.{written-length, written-spells}
 use Rattle.planner.specs.RuleSets.{Reordered, SameWalks, reordered_walks}
 use Rattle.trial_record.specs.declared.Record.{Record}
 use Rattle.trial_rules.specs.Trials.{ForbiddenSet, stage_of, litres_of, length_of, overlaid, begin_tests, begin}

@@ -24,9 +24,10 @@ use Rattle.book_bytes.specs.RoundTrip.{every_book_read}
 use Rattle.rules.specs.declared.Bound.{Bound}
 use Rattle.rules.specs.Binding.{known}
 use Rattle.rules.specs.Area.{spelled, written}
-use Rattle.rules.specs.ValidLaws.{Valid, valid→Valid, written-valid}
+use Rattle.rules.specs.ValidLaws.{Valid}
+use Rattle.rules.proofs.ValidLaws.{valid→Valid, written-valid}
 use Rattle.rules.specs.Operations.{bound_as, binding, area_after}
-use Rattle.rules.specs.Laws.{bind-accepted}
+use Rattle.rules.proofs.Laws.{bind-accepted}
 use Rattle.planner.specs.RuleSets.{SameWalks}
 use Rattle.trial_record.specs.declared.Record.{Record}
 use Rattle.trial_rules.specs.Trials.{State, failed, step}

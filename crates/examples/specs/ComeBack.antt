@@ -18,7 +18,7 @@ use Rattle.book.specs.Reading.{reading, read_as}
 use Rattle.rules.specs.declared.Bound.TheVariants.{Known}
 use Rattle.rules.specs.Binding.{covers, applied, once}
 use Rattle.rules.specs.Area.{written}
-use Rattle.rules.specs.ValidLaws.{written-valid, written-spells}
+use Rattle.rules.proofs.ValidLaws.{written-valid, written-spells}
 use Rattle.rules.specs.Operations.{binding, bound_as}
 use Rattle.limits.specs.Limits.{area_size, longest}
 use Rattle.planner.specs.declared.Outcome.{Outcome}

@@ -11,10 +11,10 @@ use Rattle.book.specs.Book.{Book, IsPath, graph}
 use Rattle.book.proofs.BookLaws.{all-member}
 use Rattle.book.specs.Reading.{accepted, reading, book_in}
 use Rattle.rules.specs.Binding.{covers, applied, known}
-use Rattle.rules.specs.BindingLaws.{known-few, known-paths}
+use Rattle.rules.proofs.BindingLaws.{known-few, known-paths}
 use Rattle.rules.specs.Area.{valid}
 use Rattle.rules.specs.Operations.{Binding, binding, area_after}
-use Rattle.rules.specs.Laws.{bind-accepted}
+use Rattle.rules.proofs.Laws.{bind-accepted}
 use Rattle.limits.specs.Limits.{area_size, most_paths, longest_path}
 use Rattle.ends.specs.Ends.{no_end, entry_of, ends}
 use Rattle.ends.specs.EndsLaws.{entry-best, entry-none, entry-start}

@@ -13,10 +13,10 @@ use Rattle.book.specs.Refusal.{refusal_by}
 use Rattle.book.proofs.RefusalLaws.{hold→none}
 use Rattle.examples.specs.Walks.{Plan, marks_0, marks_1, marks_2, marks_3, back, stay, lower_vertex, fewer-hops}
 use Rattle.rules.specs.Binding.{covers, applied, known}
-use Rattle.rules.specs.BindingLaws.{known-paths}
+use Rattle.rules.proofs.BindingLaws.{known-paths}
 use Rattle.rules.specs.Area.{spelled, valid}
 use Rattle.rules.specs.Operations.{Binding, binding, area_after}
-use Rattle.rules.specs.Laws.{bind-accepted}
+use Rattle.rules.proofs.Laws.{bind-accepted}
 use Rattle.planner.specs.declared.Outcome.{Outcome}
 use Rattle.planner.specs.declared.Outcome.TheVariants.{Walk, Nothing}
 use Rattle.limits.specs.Limits.{area_size, longest}

@@ -17,10 +17,10 @@ use Rattle.walk_check.specs.declared.Checked.TheVariants.{Clear}
 use Rattle.rules.specs.Area.{spelled, valid}
 use Rattle.limits.specs.Limits.{longest}
 use Rattle.walk_check.specs.Checking.{checkable, occurrence}
-use Rattle.walk_check.specs.CheckLaws.{clear→Avoids, Avoids→clear}
-use Rattle.rules.specs.Sets.{iff, refuted}
-use Rattle.walk_check.specs.Laws.{sizes}
-use Rattle.rules.specs.ValidLaws.{valid→Valid}
+use Rattle.walk_check.proofs.CheckLaws.{clear→Avoids, Avoids→clear}
+use Rattle.rules.proofs.Sets.{iff, refuted}
+use Rattle.walk_check.proofs.Laws.{sizes}
+use Rattle.rules.proofs.ValidLaws.{valid→Valid}
 
 pub only-walk : (g : Graph) (w : List ℕ) → length w ≤ longest → checkable g w ≡ is_walk g w
 only-walk g w few = ap (λ x. x && is_walk g w) (le-leb _ _ few)

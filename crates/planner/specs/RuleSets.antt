@@ -16,7 +16,8 @@ use Rattle.rules.specs.Area.{spelled}
 use Rattle.limits.specs.Limits.{area_size, longest}
 use Rattle.rules.specs.Binding.{known}
 use Rattle.rules.specs.Operations.{Binding, binding, area_after}
-use Rattle.rules.specs.Laws.{same_set, Filled, bind-accepted}
+use Rattle.rules.specs.Laws.{Filled}
+use Rattle.rules.proofs.Laws.{same_set, bind-accepted}
 use Rattle.planner.specs.declared.Outcome.{Outcome}
 use Rattle.planner.specs.declared.Outcome.TheVariants.{Walk, Nothing, Refused}
 use Rattle.planner.specs.Planning.{plan_tests, Planned, PlanningOf, Planning}

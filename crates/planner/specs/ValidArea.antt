@@ -13,7 +13,7 @@ use Rattle.book.specs.EntryLaws.{Short}
 use Rattle.book.proofs.EntryLaws.{entries_induction}
 use Rattle.rules.specs.Area.{spelled, blocks}
 use Rattle.limits.specs.Limits.{area_size}
-use Rattle.rules.specs.AreaLaws.{length-blocks}
+use Rattle.rules.proofs.AreaLaws.{length-blocks}
 use Rattle.rules.specs.ValidLaws.{Valid}
 use Rattle.automaton.specs.Area.{Spells, Bounded, Given, spells_nil, spells_cons}
 

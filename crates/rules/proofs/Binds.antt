@@ -14,7 +14,7 @@ use Rattle.rules.specs.declared.Bound.TheVariants.{Known, Refused}
 use Rattle.rules.specs.Area.{written}
 use Rattle.limits.specs.Limits.{area_size}
 use Rattle.rules.specs.Binding.{known}
-use Rattle.rules.specs.BindingLaws.{known-few, known-short}
+use Rattle.rules.proofs.BindingLaws.{known-few, known-short}
 use Rattle.rules.specs.Operations.{Binding, binding_of, binding, bound_as, area_after}
 use Rattle.rules.proofs.Entered.{length-written}
 

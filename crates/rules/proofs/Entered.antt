@@ -13,7 +13,7 @@ use Rattle.rules.specs.Area.{written, blocks}
 use Rattle.limits.specs.Limits.{area_size}
 use Rattle.book.specs.EntryLaws.{Short}
 use Rattle.book.proofs.EntryLaws.{length-padded, length-entry, entries_snoc, length-entries}
-use Rattle.rules.specs.AreaLaws.{padded-zeros, padded-paste, entry-at, member-entry, blocks-entries}
+use Rattle.rules.proofs.AreaLaws.{padded-zeros, padded-paste, entry-at, member-entry, blocks-entries}
 
 module _ (F : List (List ℕ)) (short : All Short F) where
   pub length-written : length F ≤ 256 → length (written F) ≡ area_size

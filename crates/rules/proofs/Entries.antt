@@ -11,7 +11,7 @@ use lib.Seq.{slice}
 use Rattle.lists.specs.Test.{any, all}
 use Rattle.book.specs.Book.{is_path}
 use Rattle.rules.specs.Area.{blocks, is_entry}
-use Rattle.rules.specs.AreaLaws.{blocks_from, length-byte, path_part}
+use Rattle.rules.proofs.AreaLaws.{blocks_from, length-byte, path_part}
 use Rattle.lists.specs.Paste.{slice_part}
 
 pub any-map : (f : List ℕ → Bool) (g : List ℕ → List ℕ) (l : List (List ℕ)) → any f (map g l) ≡ any (λ x. f (g x)) l

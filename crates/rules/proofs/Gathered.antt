@@ -17,7 +17,7 @@ use Rattle.rules.specs.Area.{written, blocks}
 use Rattle.limits.specs.Limits.{area_size}
 use Rattle.book.specs.EntryLaws.{Short}
 use Rattle.book.proofs.EntryLaws.{length_owners}
-use Rattle.rules.specs.AreaLaws.{entry-at, member-entry}
+use Rattle.rules.proofs.AreaLaws.{entry-at, member-entry}
 use Rattle.rules.proofs.Entered.{blocks-written, entry-entered}
 
 -- ---- paths with the index of their rule set, each added where its set's flags are held

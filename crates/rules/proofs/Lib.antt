@@ -5,3 +5,9 @@ pub mod Entered
 pub mod Validity
 pub mod Gathered
 pub mod Binds
+pub mod AreaLaws
+pub mod BindingLaws
+pub mod Laws
+pub mod Numbers
+pub mod Sets
+pub mod ValidLaws

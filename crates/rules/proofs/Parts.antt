@@ -9,8 +9,8 @@ use borrow.Author.Tests.{eq-eqb, ne_eqb}
 use lib.ListN.{length, get_or, take, drop, drop_of_length-le}
 use lib.Seq.{drop-cons}
 use Rattle.walks.specs.Avoid.{same}
-use Rattle.rules.specs.Sets.{same_cons}
-use Rattle.rules.specs.AreaLaws.{part_length, part_at}
+use Rattle.rules.proofs.Sets.{same_cons}
+use Rattle.rules.proofs.AreaLaws.{part_length, part_at}
 
 -- ---- two lists compared
 module _ (r s : List ℕ) (i : ℕ) where

@@ -18,9 +18,9 @@ use Rattle.rules.specs.Binding.{member, once}
 use Rattle.rules.specs.Area.{written, blocks, path_of, spelled, is_entry, valid}
 use Rattle.limits.specs.Limits.{area_size}
 use Rattle.book.specs.EntryLaws.{Short}
-use Rattle.rules.specs.AreaLaws.{length-byte, path_part, path-size, length-blocks, blocks_append, spelled_up_to}
-use Rattle.rules.specs.Sets.{once_snoc, once-front, refuted}
-use Rattle.rules.specs.ValidLaws.{entry-fits}
+use Rattle.rules.proofs.AreaLaws.{length-byte, path_part, path-size, length-blocks, blocks_append, spelled_up_to}
+use Rattle.rules.proofs.Sets.{once_snoc, once-front, refuted}
+use Rattle.rules.proofs.ValidLaws.{entry-fits}
 use Rattle.rules.proofs.Entries.{blocks_start, all_past, all_here, all-later}
 use Rattle.rules.proofs.Entered.{length-written, path-entered, looked_up}
 

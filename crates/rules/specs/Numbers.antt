@@ -9,18 +9,10 @@ use Rattle.book.specs.Refusal.{number_of, numbered}
 use Rattle.book.specs.contracts.Refusal.{the_parts as parts, the_make as make, as_values, the_eta as eta}
 
 -- What holds in each case of an enum holds of all its values.
-abbrev InEach : (cases : List (List Field)) → (Choice cases → Type 0) → Type 0
+abbrev pub InEach : (cases : List (List Field)) → (Choice cases → Type 0) → Type 0
 InEach [] P = Unit
 InEach (c ∷ cs) P = ((v : Values c) → P (inl v)) × InEach cs (λ x. P (inr x))
-
-each : (cases : List (List Field)) (P : Choice cases → Type 0) → InEach cases P → (x : Choice cases) → P x
-each [] P h x = absurd x
-each (c ∷ cs) P h (inl v) = h.0 v
-each (c ∷ cs) P h (inr x) = each cs (λ y. P (inr y)) h.1 x
 
 -- In each case both sides compute to it: there is no clause for each refusal here, so that a new one changes nothing.
 abbrev pub Again : Refusal → Type 0
 Again r = numbered (number_of r).number (number_of r).place ≡ r
-
-pub refusal-again : (r : Refusal) → Again r
-refusal-again r = subst Again (eta r) (each parts (λ x. Again (make x)) (search tt depth 60 fits 5000) (as_values r))

@@ -20,8 +20,8 @@ use Rattle.book.proofs.RefusalLaws.{first-fails}
 use Rattle.book.specs.Book.{is_path}
 use Rattle.rules.specs.Area.{written}
 use Rattle.limits.specs.Limits.{area_size}
-use Rattle.rules.specs.Sets.{refuted}
-use Rattle.rules.specs.ValidLaws.{written-length}
+use Rattle.rules.proofs.Sets.{refuted}
+use Rattle.rules.proofs.ValidLaws.{written-length}
 use Rattle.trial_rules.specs.Trials.{Report, passed, failed, State, path_area, standing, trials, oracle_tests, passed_in, Valid, Plan, refusal, overlaid, step, unless, run, accepted, named, failures, passes, replanned, Begin, begun, state_after, accepted_of}
 use Rattle.trial_rules.specs.Tests.{set-paths, set-once}
 use Rattle.trial_rules.specs.Accepted.{begin-accepted, only-oracle}

@@ -8,7 +8,7 @@ use mathlib.Core.List.{List, [], ◌∷◌, ◌++◌, Memᴰ}
 use Rattle.std.proofs.Math.Logic.{⊎_elim}
 use Rattle.lists.specs.Distinct.{Distinct, Dedup}
 use Rattle.rules.specs.Binding.{member}
-use Rattle.rules.specs.Sets.{member→Mem, Mem→member}
+use Rattle.rules.proofs.Sets.{member→Mem, Mem→member}
 
 -- The different paths of R that F lacks, each once (01: the lab's runs that the binding sheets lack).
 unfoldable pub lacking : List (List ℕ) → List (List ℕ) → List (List ℕ)

@@ -20,7 +20,7 @@ use Rattle.book.specs.Refusal.{all_hold}
 use Rattle.book.proofs.RefusalLaws.{hold→all, all→hold}
 use Rattle.book.proofs.BookLaws.{is_path→IsPath, IsPath→is_path, all-member}
 use Rattle.rules.specs.Binding.{once}
-use Rattle.rules.specs.Sets.{member→Mem, Mem→member}
+use Rattle.rules.proofs.Sets.{member→Mem, Mem→member}
 use Rattle.limits.specs.Limits.{most_paths}
 use Rattle.trial_rules.specs.Trials.{State, standing, none_stands, one_stands, record_tests, ForbiddenSet, Valid, is_forbidden_set, is_valid, is_record}
 

@@ -15,7 +15,7 @@ use Rattle.book.specs.RefusalLaws.{Fails, Hold}
 use Rattle.book.proofs.RefusalLaws.{first-fails, hold→none}
 use Rattle.rules.specs.Area.{written, spelled}
 use Rattle.rules.specs.Binding.{known}
-use Rattle.rules.specs.Laws.{gathered_length, gathered_spells}
+use Rattle.rules.proofs.Laws.{gathered_length, gathered_spells}
 use Rattle.routes.specs.declared.Found.{Found}
 use Rattle.routes.specs.Plan.{Searched}
 use Rattle.trial_record.specs.declared.Record.{Record}

@@ -24,8 +24,8 @@ use Rattle.book.specs.Tables.{entries, padded}
 use Rattle.book.proofs.Padded.{padded-entry}
 use Rattle.rules.specs.Area.{written, blocks, spelled, valid}
 use Rattle.limits.specs.Limits.{area_size, longest}
-use Rattle.rules.specs.AreaLaws.{length-blocks}
-use Rattle.rules.specs.ValidLaws.{written-length, written-valid, written-spells}
+use Rattle.rules.proofs.AreaLaws.{length-blocks}
+use Rattle.rules.proofs.ValidLaws.{written-length, written-valid, written-spells}
 use Rattle.routes.specs.declared.Found.{Found}
 use Rattle.routes.specs.Plan.{Searched}
 use Rattle.trial_record.specs.declared.Record.{Record}

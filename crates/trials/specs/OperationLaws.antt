@@ -15,8 +15,8 @@ use Rattle.book.specs.Book.{Book, graph}
 use Rattle.book.specs.Reading.{accepted}
 use Rattle.rules.specs.Area.{written, blocks, spelled, valid}
 use Rattle.limits.specs.Limits.{area_size}
-use Rattle.rules.specs.AreaLaws.{length-blocks}
-use Rattle.rules.specs.ValidLaws.{valid→Valid, written-length, written-valid, written-spells}
+use Rattle.rules.proofs.AreaLaws.{length-blocks}
+use Rattle.rules.proofs.ValidLaws.{valid→Valid, written-length, written-valid, written-spells}
 use Rattle.states.specs.Chosen.{chosen}
 use Rattle.trial_record.specs.declared.Record.{Record}
 use Rattle.trial_rules.specs.Trials.{Report, State, path_area, area_tests, said_tests, ForbiddenSet, is_forbidden_set, is_record, is_valid, Valid, refusal, step}

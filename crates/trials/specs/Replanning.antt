@@ -10,7 +10,7 @@ use Rattle.states.proofs.Chosen.{chosen_is}
 use Rattle.book.specs.Book.{Book, WellFormed, graph}
 use Rattle.book.proofs.BookLaws.{is_path→IsPath}
 use Rattle.rules.specs.Binding.{known}
-use Rattle.rules.specs.BindingLaws.{known-few, known-paths, known-once}
+use Rattle.rules.proofs.BindingLaws.{known-few, known-paths, known-once}
 use Rattle.routes.specs.declared.Found.{Found}
 use Rattle.routes.specs.declared.Found.TheVariants.{Walk, Nothing}
 use Rattle.routes.specs.Plan.{Searched}

@@ -1,3 +1,5 @@
 pub mod Walks
 pub mod Searched
 pub mod Checks
+pub mod CheckLaws
+pub mod Laws

@@ -15,10 +15,10 @@ use Rattle.walks.specs.Avoid.{same}
 use Rattle.book.specs.Book.{All}
 use Rattle.walk_check.specs.declared.Checked.TheVariants.{Clear, Occurs}
 use Rattle.rules.specs.Area.{blocks, path_of, spelled}
-use Rattle.rules.specs.AreaLaws.{length-byte, path_part, path-size}
+use Rattle.rules.proofs.AreaLaws.{length-byte, path_part, path-size}
 use Rattle.lists.specs.Paste.{slice_part}
 use Rattle.walk_check.specs.Checking.{ends_at, some_ends, first_from, named_at, answer_at, check_from}
-use Rattle.walk_check.specs.CheckLaws.{first-none}
+use Rattle.walk_check.proofs.CheckLaws.{first-none}
 use Rattle.rules.proofs.Entries.{any-map, blocks_start, any_past, any_here, any-later}
 
 -- ---- the lengths from n on

@@ -1,4 +1,2 @@
 -- Meaning: Checking (which path the check names, and what it is refused for). Laws: CheckLaws, Laws.
 pub mod Checking
-pub mod CheckLaws
-pub mod Laws

@@ -13,7 +13,7 @@ use Rattle.book.specs.RefusalLaws.{here, later}
 use Rattle.book.specs.Tables.{IsSets, IsLoaded}
 use Rattle.rules.specs.Area.{written, valid}
 use Rattle.rules.specs.Binding.{known}
-use Rattle.rules.specs.Laws.{gathered_valid, gathered_spells}
+use Rattle.rules.proofs.Laws.{gathered_valid, gathered_spells}
 use Rattle.routes.specs.Plan.{Searched}
 use Rattle.text.specs.Text.{refusal_text, found_text}
 use Rattle.answer.specs.AnswerLaws.{found-text, found-standing, answer-fails, answer-found}

@@ -9,7 +9,7 @@ use Rattle.book.specs.Book.{Book, graph}
 use Rattle.book.specs.Tables.{IsSets, IsLoaded}
 use Rattle.rules.specs.Area.{written, valid}
 use Rattle.rules.specs.Binding.{known}
-use Rattle.rules.specs.Laws.{gathered_valid, gathered_spells}
+use Rattle.rules.proofs.Laws.{gathered_valid, gathered_spells}
 use Rattle.text.specs.Writing.{wrote_as}
 use Rattle.board_text.specs.Board.{lines}
 use Rattle.board_text.specs.BoardLaws.{board_refused, board_lines, book-lines}

@@ -9,7 +9,7 @@ use lib.ListN.{length}
 use Rattle.walks.specs.Walk.{is_walk}
 use Rattle.book.specs.Book.{Book, graph}
 use Rattle.rules.specs.Area.{spelled}
-use Rattle.rules.specs.ValidLaws.{valid-fits}
+use Rattle.rules.proofs.ValidLaws.{valid-fits}
 use Rattle.book.specs.Tables.{IsGraph}
 use Rattle.judging.proofs.Weighing.{nonempty}
 use Rattle.judging.proofs.Standing.{only-walk, is-clear, not-clear, no_walk, other-start, other-end, unclear, feasible}

@@ -4,7 +4,7 @@ use mathlib.Core.Path.{sym}
 use Rattle.book.specs.Book.{graph}
 use Rattle.book.proofs.Loaded.{graph-few, graph-weights}
 use Rattle.rules.specs.Area.{spelled}
-use Rattle.rules.specs.ValidLaws.{valid→Valid}
+use Rattle.rules.proofs.ValidLaws.{valid→Valid}
 use Rattle.planner.specs.ValidArea.{valid-spells, valid-bounded, valid-given}
 use Rattle.reach.proofs.fill.Statement.{statement}
 use Rattle.reach.proofs.fill.Tie as tie

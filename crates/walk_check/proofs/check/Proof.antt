@@ -6,7 +6,7 @@ use borrow.Author.Tests.{not-true, not-false, le-leb, lt-leb}
 use Rattle.book.specs.Book.{graph}
 use Rattle.rules.specs.Area.{valid}
 use Rattle.walk_check.specs.Checking.{checkable}
-use Rattle.rules.specs.ValidLaws.{valid-fits}
+use Rattle.rules.proofs.ValidLaws.{valid-fits}
 use Rattle.book.proofs.BookLaws.{answer-refused}
 use Rattle.book.specs.Loaded.{Loaded}
 use Rattle.book.proofs.Loaded.{loaded}

@@ -9,7 +9,7 @@ use Rattle.book.specs.RefusalLaws.{Hold, here, later}
 use Rattle.book.specs.Tables.{IsGraph, IsSets}
 use Rattle.rules.specs.Area.{written, valid}
 use Rattle.rules.specs.Binding.{known}
-use Rattle.rules.specs.Laws.{gathered_valid}
+use Rattle.rules.proofs.Laws.{gathered_valid}
 use Rattle.trial_record.specs.declared.Record.{Record}
 use Rattle.trial_record.specs.Steps.{fresh, replanned}
 use Rattle.trial_rules.specs.Trials.{begin_tests}

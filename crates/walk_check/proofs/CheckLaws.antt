@@ -14,7 +14,7 @@ use Rattle.walks.specs.Avoid.{Occurs, Avoids, same}
 use Rattle.walk_check.specs.declared.Checked.TheVariants.{Clear, Occurs as Occurs-at}
 use Rattle.lists.specs.Paste.{slice_part}
 use Rattle.walk_check.specs.Checking.{ends_at, some_ends, first_from, named_at, answer_at, check_from, occurrence}
-use Rattle.rules.specs.Sets.{same_true, true_same, refuted}
+use Rattle.rules.proofs.Sets.{same_true, true_same, refuted}
 
 -- ---- the first number that passes
 pub first-none : (p : ℕ → Bool) (k n : ℕ) → ((m : ℕ) → n ≤ m → p m ≡ false) → first_from p k n ≡ none

@@ -9,7 +9,7 @@ use Rattle.book.specs.Book.{RuleSet, Book, All, IsPath, WellFormed, all_paths}
 use Rattle.book.proofs.BookLaws.{all_map, all_append, all_left, all_right}
 use Rattle.rules.specs.Binding.{applies, applied, known, once}
 use Rattle.book.specs.EntryLaws.{Short}
-use Rattle.rules.specs.Sets.{distinct-once, distinct-length, distinct-all}
+use Rattle.rules.proofs.Sets.{distinct-once, distinct-length, distinct-all}
 
 module _ (P : List ℕ → Type 0) where
   pub bound_all : (flags : ℕ) (ss : List RuleSet) → All P (all_paths ss) → All P (applied flags ss)

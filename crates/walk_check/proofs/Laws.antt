@@ -16,8 +16,8 @@ use Rattle.limits.specs.Limits.{area_size, longest_path}
 use Rattle.walk_check.specs.Checking.{checkable, occurrence, checked_unless, check_tests, checking_of, checking}
 use Rattle.rules.specs.Operations.{binding, area_after}
 use Rattle.rules.specs.Laws.{Filled}
-use Rattle.rules.specs.ValidLaws.{valid→Valid}
-use Rattle.walk_check.specs.CheckLaws.{clear→Avoids, Avoids→clear}
+use Rattle.rules.proofs.ValidLaws.{valid→Valid}
+use Rattle.walk_check.proofs.CheckLaws.{clear→Avoids, Avoids→clear}
 
 -- the paths of a valid area have 2 to 8 vertices
 pub sizes : (v : ℕ) (F : List (List ℕ)) → All (IsPath v) F → (r : List ℕ) → Memᴰ r F → (2 ≤ length r) × (length r ≤ longest_path)
