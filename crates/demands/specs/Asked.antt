@@ -26,7 +26,7 @@ use Rattle.planner.specs.Planning.{plan_tests}
 use Rattle.reach.specs.Reaching.{reach_tests}
 use Rattle.trial_record.specs.declared.Record.{Record}
 use Rattle.trial_rules.specs.Trials.{Report, passed, failed, State, standing, is_forbidden_set, is_record, is_valid, Valid as ValidState, is_named, has_room, begin_tests}
-use Rattle.trial_rules.specs.Tests.{once→Distinct, forbidden-set, →is_forbidden_set, is_valid→Valid}
+use Rattle.trial_rules.proofs.Tests.{once→Distinct, forbidden-set, →is_forbidden_set, is_valid→Valid}
 use Rattle.judging.specs.Judging.{state_of, report_tests}
 use Rattle.trials.specs.OperationLaws.{record_part}
 use Rattle.demands.specs.Conditions.{Condition, asks, AllHold, FirstFails, Decides, first-none, first_some, le_iff, lt_iff, eq_iff, and-iff}

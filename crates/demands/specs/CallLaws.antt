@@ -17,8 +17,9 @@ use Rattle.book.specs.Reading.{accepted, reading, refusal_of, book_in}
 use Rattle.rules.specs.Binding.{known}
 use Rattle.trial_record.specs.declared.Record.{Record}
 use Rattle.trial_rules.specs.Trials.{Report, passed, failed, State, path_area, is_named, has_room, oracle_tests, refusal, Valid, begin_refusal, unless, step, after, accepted as acceptedFrom, EachAccepted, Begin}
-use Rattle.trial_rules.specs.Lacking.{lacking, together, together-is, lacking-into, lacking-from, lacking-distinct}
-use Rattle.trial_rules.specs.Invariant.{Invariant}
+use Rattle.trial_rules.specs.Lacking.{lacking, together}
+use Rattle.trial_rules.proofs.Lacking.{together-is, lacking-into, lacking-from, lacking-distinct}
+use Rattle.trial_rules.proofs.Invariant.{Invariant}
 use Rattle.trial_rules.specs.Oracle.{TrueTo}
 use Rattle.judging.specs.Judging.{state_of, report_tests}
 use Rattle.trials.specs.declared.Begun.{Begun}

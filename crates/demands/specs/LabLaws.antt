@@ -11,9 +11,10 @@ use Rattle.rules.specs.Binding.{known}
 use Rattle.trial_record.specs.declared.Record.{Record}
 use Rattle.trial_rules.specs.Trials.{Report, ForbiddenSet, step, Begin, begun, begin_refusal, state_after, accepted_of}
 use Rattle.trial_rules.specs.Lacking.{lacking}
-use Rattle.trial_rules.specs.Invariant.{Invariant, invariant_begin}
-use Rattle.trial_rules.specs.Claim.{claim, refused_as_if_not_made}
-use Rattle.trial_rules.specs.Oracle.{OracleSet, oracle}
+use Rattle.trial_rules.proofs.Invariant.{Invariant, invariant_begin}
+use Rattle.trial_rules.proofs.Claim.{claim, refused_as_if_not_made}
+use Rattle.trial_rules.specs.Oracle.{OracleSet}
+use Rattle.trial_rules.proofs.Oracle.{oracle}
 use Rattle.trials.specs.declared.Begun.{Begun}
 use Rattle.trials.specs.Operations.{Leaves, answering}
 use Rattle.trials.specs.Replanning.{chosen-planner}

@@ -25,7 +25,7 @@ use Rattle.planner.specs.declared.Outcome.{Outcome}
 use Rattle.planner.specs.Planning.{plan_tests, Planned, PlanningOf, Planning}
 use Rattle.planner.specs.RuleSets.{planned-same}
 use Rattle.listed.specs.SameBook.{from-book}
-use Rattle.trial_rules.specs.Plans.{plan-best}
+use Rattle.trial_rules.proofs.Plans.{plan-best}
 use Rattle.trials.specs.Replanning.{chosen-planner, known-set}
 use Rattle.demands.specs.Marks.{Clear, needs_nothing, known→sheet, sheet→known}
 use Rattle.demands.specs.Conditions.{zero_one}

@@ -25,7 +25,7 @@ use Rattle.planner.specs.RuleSets.{SameWalks, equal-plans}
 use Rattle.ends.specs.Ends.{entry_of, ends}
 use Rattle.reach.specs.Reaching.{reach_tests, answer_by, table_by, reached, table_after}
 use Rattle.trial_rules.specs.Trials.{ForbiddenSet}
-use Rattle.trial_rules.specs.Tests.{set-paths}
+use Rattle.trial_rules.proofs.Tests.{set-paths}
 use Rattle.trials.specs.Replanning.{known-set}
 use Rattle.demands.specs.AnswerLaws.{binds}
 use Rattle.demands.specs.PlanLaws.{count-is}

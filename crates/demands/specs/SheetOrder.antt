@@ -21,7 +21,7 @@ use Rattle.rules.proofs.ValidLaws.{written-length, written-spells}
 use Rattle.planner.specs.RuleSets.{Reordered, SameWalks, reordered_walks}
 use Rattle.trial_record.specs.declared.Record.{Record}
 use Rattle.trial_rules.specs.Trials.{ForbiddenSet, stage_of, litres_of, length_of, overlaid, begin_tests, begin}
-use Rattle.trial_rules.specs.Tests.{set-paths, set-once}
+use Rattle.trial_rules.proofs.Tests.{set-paths, set-once}
 use Rattle.trials.specs.declared.Begun.{Begun}
 use Rattle.trials.specs.Operations.{Leaves, begun_as, beginning_of, beginning}
 use Rattle.trials.specs.Replanning.{known-set}

@@ -31,7 +31,7 @@ use Rattle.rules.proofs.Laws.{bind-accepted}
 use Rattle.planner.specs.RuleSets.{SameWalks}
 use Rattle.trial_record.specs.declared.Record.{Record}
 use Rattle.trial_rules.specs.Trials.{State, failed, step}
-use Rattle.trial_rules.specs.Tests.{forbidden-set, set-once}
+use Rattle.trial_rules.proofs.Tests.{forbidden-set, set-once}
 use Rattle.judging.specs.Judging.{state_of}
 use Rattle.trials.specs.declared.Reported.{Reported}
 use Rattle.trials.specs.Operations.{answering, reported_as, reporting}

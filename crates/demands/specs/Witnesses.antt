@@ -19,8 +19,8 @@ use Rattle.book.proofs.BookLaws.{is_path→IsPath}
 use Rattle.rules.specs.Binding.{covers, applied, once, known}
 use Rattle.trial_record.specs.declared.Record.{Record}
 use Rattle.trial_rules.specs.Trials.{Report, passed, failed, State, path_area, Valid, is_valid, is_record, is_forbidden_set, step}
-use Rattle.trial_rules.specs.Tests.{is_forbidden_set→, is_valid→Valid}
-use Rattle.trial_rules.specs.Accepted.{only-oracle}
+use Rattle.trial_rules.proofs.Tests.{is_forbidden_set→, is_valid→Valid}
+use Rattle.trial_rules.proofs.Accepted.{only-oracle}
 use Rattle.trial_rules.specs.Lacking.{lacking, together}
 use Rattle.trials.specs.declared.Begun.{Begun}
 use Rattle.trials.specs.declared.Reported.{Reported}

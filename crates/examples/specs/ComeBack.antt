@@ -25,7 +25,7 @@ use Rattle.planner.specs.declared.Outcome.{Outcome}
 use Rattle.planner.specs.declared.Outcome.TheVariants.{Walk}
 use Rattle.planner.specs.Planning.{Planning}
 use Rattle.trial_rules.specs.Trials.{failed, ForbiddenSet, refusal, is_forbidden_set}
-use Rattle.trial_rules.specs.Tests.{is_forbidden_set→, set-paths, set-once}
+use Rattle.trial_rules.proofs.Tests.{is_forbidden_set→, set-paths, set-once}
 use Rattle.series.specs.Reports.{reports_in}
 use Rattle.text.specs.Text.{digits, followed}
 use Rattle.answer.specs.Answer.{AnsweredOf}

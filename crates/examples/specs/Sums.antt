@@ -31,10 +31,10 @@ use Rattle.trial_rules.specs.Trials.{Report, failed, State, path_area, trials, b
 use Rattle.series.specs.Reports.{reports_in, reports_of}
 use Rattle.trials.specs.Operations.{Leaves, answering, begun_as, first_state, beginning_of, beginning, reported_as, reporting_of, reporting}
 use Rattle.series.specs.Making.{replaying_of, replaying}
-use Rattle.trial_rules.specs.Tests.{is_forbidden_set→, is_valid→Valid}
-use Rattle.trial_rules.specs.Plans.{plan-best, plan-none}
+use Rattle.trial_rules.proofs.Tests.{is_forbidden_set→, is_valid→Valid}
+use Rattle.trial_rules.proofs.Plans.{plan-best, plan-none}
 use Rattle.trials.specs.Replanning.{chosen-planner}
-use Rattle.trial_rules.specs.Accepted.{only-oracle}
+use Rattle.trial_rules.proofs.Accepted.{only-oracle}
 use Rattle.trials.specs.OperationLaws.{same_step}
 
 -- ---- what the sums say

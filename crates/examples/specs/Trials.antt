@@ -15,8 +15,8 @@ use Rattle.examples.specs.Books.{book_a}
 use Rattle.rules.specs.Binding.{covers, applied, once}
 use Rattle.limits.specs.Limits.{area_size, longest}
 use Rattle.trial_rules.specs.Trials.{passed, failed, State, Valid, Begin, EachAccepted, run, refusal, oracle_tests, is_valid, is_forbidden_set, is_record}
-use Rattle.trial_rules.specs.Tests.{is_forbidden_set→, is_valid→Valid}
-use Rattle.trial_rules.specs.Accepted.{only-oracle}
+use Rattle.trial_rules.proofs.Tests.{is_forbidden_set→, is_valid→Valid}
+use Rattle.trial_rules.proofs.Accepted.{only-oracle}
 use Rattle.trial_rules.specs.Lacking.{lacking}
 use Rattle.trials.specs.Replanning.{trials_of}
 use Rattle.trial_rules.specs.Oracle.{OracleSet, TrueOracle, TrueTo}

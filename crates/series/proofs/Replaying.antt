@@ -21,7 +21,7 @@ use Rattle.trials.specs.Operations.{Leaves, answering, begun_as, first_state, be
 use Rattle.series.specs.Reports.{is_report, report_in, size_of, reports_of}
 use Rattle.series.specs.ReportsLaws.{reports_cons, reports_none}
 use Rattle.series.specs.Making.{made_if, making, replaying_of, replaying}
-use Rattle.trial_rules.specs.Invariant.{Invariant, invariant_begin}
+use Rattle.trial_rules.proofs.Invariant.{Invariant, invariant_begin}
 use Rattle.series.specs.Whole.{leaves_of, report_on, report_leaves, after-keeps, opened, replay_leaves}
 
 no_record : {x : Refusal} {r : Record} → Begun.Refused x ≡ Begun.Record r → ⊥

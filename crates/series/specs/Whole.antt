@@ -18,9 +18,11 @@ use Rattle.trials.specs.OperationLaws.{same_step}
 use Rattle.series.specs.Making.{replaying_of, replaying}
 use Rattle.series.specs.Reports.{reports_of}
 use Rattle.trials.specs.Replanning.{trials_of}
-use Rattle.trial_rules.specs.Invariant.{Invariant, invariant_begin, invariant_step}
-use Rattle.trial_rules.specs.Claim.{Claim, claim}
-use Rattle.trial_rules.specs.Oracle.{OracleSet, TrueOracle, OracleOutcome, oracle}
+use Rattle.trial_rules.proofs.Invariant.{Invariant, invariant_begin, invariant_step}
+use Rattle.trial_rules.specs.Claim.{Claim}
+use Rattle.trial_rules.proofs.Claim.{claim}
+use Rattle.trial_rules.specs.Oracle.{OracleSet, TrueOracle, OracleOutcome}
+use Rattle.trial_rules.proofs.Oracle.{oracle}
 
 -- What a state leaves: its record, and every byte of both areas.
 abbrev pub leaves_of : State → Leaves Record

@@ -12,7 +12,6 @@ use Rattle.book.specs.RefusalLaws.{Hold}
 use Rattle.book.proofs.RefusalLaws.{none→hold, hold→none, first-of_append}
 use Rattle.limits.specs.Limits.{area_size, longest}
 use Rattle.trial_rules.specs.Trials.{Report, State, path_area, area_tests, begin_tests, oracle_tests, state_tests, is_named, has_room, refusal, Valid, is_valid, Begin}
-use Rattle.trial_rules.specs.Tests.{is_valid→Valid, Valid→is_valid}
 
 -- What an accepted begin has passed.
 pub record Accepted (b : Begin) : Type 0 where
@@ -21,11 +20,6 @@ pub record Accepted (b : Begin) : Type 0 where
   pub start : b.start < b.graph.count
   pub end : b.end < b.graph.count
 
-pub begin-accepted : (b : Begin) → Accepted b
-begin-accepted b =
-    let h = none→hold (begin_tests b.graph b.start b.end b.paths b.area) b.not-refused in
-    record { paths-fit = leb-true _ _ h.0; area-fits = leb-true _ _ h.1.0; start = ltb-true _ _ h.1.1.0; end = ltb-true _ _ h.1.1.1.0 }
-
 -- An accepted report: what holds of the state and of the report.
 pub record Accepts (g : Graph) (σ : State) (ρ : Report) : Type 0 where
   pub area-fits : longest ≤ length σ.area
@@ -33,36 +27,3 @@ pub record Accepts (g : Graph) (σ : State) (ρ : Report) : Type 0 where
   pub stage : σ.rec.stage ≡ 0
   pub named : T (is_named g σ ρ)
   pub room : T (has_room σ ρ)
-
-path-area-fits : (σ : State) → area_size ≤ length (path_area σ)
-path-area-fits σ = simp (length-append, length-replicate) (omega arith)
-
-module _ (g : Graph) (σ : State) (ρ : Report) where
-  pub accepts : refusal g σ ρ ≡ none → Accepts g σ ρ
-  unfolding refusal
-  accepts e =
-      let h = none→hold (state_tests g σ ρ) e in
-      record {
-        area-fits = leb-true _ _ h.1.0;
-        valid = is_valid→Valid g σ (true→T _ h.1.1.0);
-        stage = eqb-true _ _ h.1.1.1.0;
-        named = true→T _ h.1.1.1.1.0;
-        room = true→T _ h.1.1.1.1.1.0;
-      }
-
-  -- the tests of 8 and 9 hold
-  in_order : longest ≤ length σ.area → Valid g σ → Hold (area_tests (path_area σ) σ.area ++ (test 9 (is_valid g σ) ∷ []))
-  in_order long v = (le-leb _ _ (path-area-fits σ), (le-leb _ _ long, (T→true _ (Valid→is_valid g σ v), tt)))
-
-  pub not-refused : Accepts g σ ρ → refusal g σ ρ ≡ none
-  unfolding refusal
-  not-refused h =
-      let (paths-fit, (area-fits, (valid, _))) = in_order h.area-fits h.valid in
-      hold→none (state_tests g σ ρ) (paths-fit, (area-fits, (valid, (eq-eqb _ _ h.stage, (T→true _ h.named, (T→true _ h.room, tt))))))
-
-  -- In a valid state with a line-up area that is long enough, only the oracle's tests are left.
-  pub only-oracle : longest ≤ length σ.area → Valid g σ → refusal g σ ρ ≡ refusal_by (oracle_tests g σ ρ)
-  unfolding refusal
-  only-oracle long v =
-      let before : List Test = area_tests (path_area σ) σ.area ++ (test 9 (is_valid g σ) ∷ []) in
-      first-of_append before (oracle_tests g σ ρ) (hold→none before (in_order long v))

@@ -21,7 +21,7 @@ use Rattle.routes.specs.Plan.{Searched}
 use Rattle.trial_record.specs.declared.Record.{Record}
 use Rattle.trial_record.specs.Steps.{fresh, replanned, Recordable}
 use Rattle.trial_rules.specs.Trials.{begin_tests, begin_refusal}
-use Rattle.trial_rules.specs.Accepted.{begin-accepted}
+use Rattle.trial_rules.proofs.Accepted.{begin-accepted}
 use Rattle.trials.specs.declared.Begun.{Begun}
 use Rattle.trials.specs.Operations.{answering, begun_as, first_state, beginning_of}
 use Rattle.trials.specs.Replanning.{Held, held, chosen-planner, known-set, trials_of, with_answer}

@@ -36,8 +36,8 @@ use Rattle.trial_record.specs.Steps.{passed_of, failed_of, replanned, Recordable
 use Rattle.trials.specs.Operations.{answering, reported_as, reporting_of}
 use Rattle.judging.specs.Judging.{state_of, judge_tests, report_tests, judged_as}
 use Rattle.trials.specs.OperationLaws.{TestsPassed, passed_tests}
-use Rattle.trial_rules.specs.Tests.{set-paths, set-once}
-use Rattle.trial_rules.specs.Invariant.{one_more}
+use Rattle.trial_rules.proofs.Tests.{set-paths, set-once}
+use Rattle.trial_rules.proofs.Invariant.{one_more}
 use Rattle.trials.specs.Replanning.{Held, held, chosen-planner}
 
 -- ---- what the judgement tells

@@ -22,7 +22,7 @@ use Rattle.trial_record.specs.declared.Record.{Record}
 use Rattle.trial_rules.specs.Trials.{Report, State, path_area, area_tests, said_tests, ForbiddenSet, is_forbidden_set, is_record, is_valid, Valid, refusal, step}
 use Rattle.trials.specs.Operations.{reported_as, reporting_of}
 use Rattle.judging.specs.Judging.{state_of, report_tests}
-use Rattle.trial_rules.specs.Tests.{forbidden-set, once→Distinct, set-paths, set-once, →is_forbidden_set, Valid→is_valid, is_valid→Valid}
+use Rattle.trial_rules.proofs.Tests.{forbidden-set, once→Distinct, set-paths, set-once, →is_forbidden_set, Valid→is_valid, is_valid→Valid}
 use Rattle.trial_rules.specs.Accepted.{Accepts}
 
 -- ---- the runs area

@@ -18,8 +18,8 @@ use Rattle.limits.specs.Limits.{longest}
 use Rattle.trial_record.specs.declared.Record.{Record}
 use Rattle.trial_rules.specs.Trials.{ForbiddenSet, Plan, Planner, Begin, begin_refusal, stage_of, litres_of, length_of, overlaid}
 use Rattle.trial_record.specs.Steps.{with_plan, replanned, Recordable}
-use Rattle.trial_rules.specs.Tests.{once→Distinct, forbidden-set}
-use Rattle.trial_rules.specs.Plans.{plan-best, plan-none}
+use Rattle.trial_rules.proofs.Tests.{once→Distinct, forbidden-set}
+use Rattle.trial_rules.proofs.Plans.{plan-best, plan-none}
 
 -- The chosen walk is a planner's answer, in every book that is read.
 pub chosen-planner : (b : Book) → WellFormed b → Planner (graph b) (chosen (graph b))

@@ -17,8 +17,9 @@ use Rattle.book.specs.Book.{is_path}
 use Rattle.limits.specs.Limits.{most_paths, area_size, longest}
 use Rattle.states.specs.Chosen.{Decided}
 use Rattle.trial_rules.specs.Trials.{Report, passed, failed, State, standing, ForbiddenSet, Valid, Plan, Planner, refusal, overlaid, holding, step, unless, after, run, accepted, EachAccepted, named, failures, passes, replanned, Begin, begun}
-use Rattle.trial_rules.specs.Lacking.{distinct_snoc}
-use Rattle.trial_rules.specs.Accepted.{begin-accepted, Accepts, accepts}
+use Rattle.trial_rules.proofs.Lacking.{distinct_snoc}
+use Rattle.trial_rules.specs.Accepted.{Accepts}
+use Rattle.trial_rules.proofs.Accepted.{begin-accepted, accepts}
 
 -- ---- lists
 pub named-failed : (ρs : List Report) (r : List ℕ) → named (ρs ++ (failed r ∷ [])) ≡ named ρs ++ (r ∷ [])
