@@ -17,7 +17,7 @@ use Rattle.rules.proofs.BindingLaws.{known-few, known-short}
 use Rattle.text.specs.Text.{refusal_text}
 use Rattle.text.specs.Writing.{Wrote, wrote-front, front-size, front-within}
 use Rattle.ends.specs.Ends.{ends}
-use Rattle.ends.specs.EndsLaws.{best-numbers}
+use Rattle.ends.proofs.EndsLaws.{best-numbers}
 use Rattle.board_text.specs.Board.{lines, board_as, board_of, board_by, board_text, Printed}
 use Rattle.board_text.specs.Lines.{Light, table_lines, ends-lines}
 

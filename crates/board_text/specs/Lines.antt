@@ -10,7 +10,7 @@ use Rattle.walks.specs.Walk.{weight_of}
 use Rattle.states.specs.Chosen.{chosen}
 use Rattle.text.specs.Text.{decimal, cost_text, none_text}
 use Rattle.ends.specs.Ends.{no_end, entry_of, ends}
-use Rattle.ends.specs.EndsLaws.{length-ends, ends-weight, ends-hops}
+use Rattle.ends.proofs.EndsLaws.{length-ends, ends-weight, ends-hops}
 use Rattle.board_text.specs.Board.{end_text, line_of, lines}
 
 abbrev blank : List ℕ

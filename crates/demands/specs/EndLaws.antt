@@ -22,7 +22,7 @@ use Rattle.planner.specs.declared.Outcome.{Outcome}
 use Rattle.planner.specs.Planning.{plan_tests, Planned, PlanningOf}
 use Rattle.planner.specs.ValidArea.{valid-bounded}
 use Rattle.ends.specs.Ends.{no_end, entry_of, ends}
-use Rattle.ends.specs.EndsLaws.{length-ends, ends-weight, ends-hops, entry-best, entry-none, none-entry, entry-start}
+use Rattle.ends.proofs.EndsLaws.{length-ends, ends-weight, ends-hops, entry-best, entry-none, none-entry, entry-start}
 use Rattle.reach.specs.declared.Reached.{Reached}
 use Rattle.reach.specs.Reaching.{reach_tests, answer_by, table_by, Reaching}
 use Rattle.demands.specs.Asked.{conditions}

@@ -1,2 +1,5 @@
 pub mod Gathering
 pub mod Telling
+pub mod Filled
+pub mod EndsLaws
+pub mod Least

@@ -6,7 +6,8 @@ use native.Mathlib.Numerals.{add-one}
 use native.Mathlib.Omega.{arith}
 use lib.ListN.{length, drop, set, length-append, length-drop}
 use lib.Seq.{drop-cons, set_at}
-use Rattle.ends.specs.Least.{told, numbers, length-numbers}
+use Rattle.ends.specs.Least.{told, numbers}
+use Rattle.ends.proofs.Least.{length-numbers}
 
 -- One more number after the first k.
 written : (front old : List ℕ) (k x : ℕ) → length front ≡ k → k < length old → set (front ++ drop k old) k x ≡ (front ++ (x ∷ [])) ++ drop (k + 1) old

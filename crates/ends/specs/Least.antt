@@ -19,12 +19,6 @@ pub record Gathered (latests d : List ℕ) (m : ℕ) (least : List ℕ) : Type 0
 abbrev pub told : ℕ → List ℕ
 told x = cond (ltb x inf) (x / hops_limit) no_end ∷ cond (ltb x inf) (x % hops_limit) no_end ∷ []
 
-pub told-near : (x : ℕ) → x < inf → told x ≡ x / hops_limit ∷ x % hops_limit ∷ []
-told-near x h = ap (λ b. cond b (x / hops_limit) no_end ∷ cond b (x % hops_limit) no_end ∷ []) (lt-ltb x inf h)
-
-pub told-far : (x : ℕ) → inf ≤ x → told x ≡ no_end ∷ no_end ∷ []
-told-far x h = ap (λ b. cond b (x / hops_limit) no_end ∷ cond b (x % hops_limit) no_end ∷ []) (le-ltb x inf h)
-
 -- The numbers of the vertices below n, where the distance to v is f v.
 unfoldable pub numbers : (ℕ → ℕ) → ℕ → List ℕ
 numbers f zero = []
@@ -32,16 +26,6 @@ numbers f (suc n) = numbers f n ++ told (f n)
 
 abbrev pub entries : List ℕ → List ℕ → ℕ → ℕ → List ℕ
 entries latests d m n = numbers (least_at latests d m) n
-
-pub length-numbers : (f : ℕ → ℕ) (n : ℕ) → length (numbers f n) ≡ 2 * n
-unfolding numbers
-length-numbers f zero = refl
-length-numbers f (suc n) = rw length-append (omega (arith, length-numbers f n))
-
-pub numbers-same : (f f' : ℕ → ℕ) (n : ℕ) → ((v : ℕ) → v < n → f v ≡ f' v) → numbers f n ≡ numbers f' n
-unfolding numbers
-numbers-same f f' zero same = refl
-numbers-same f f' (suc n) same = ap₂ (λ l x. l ++ told x) (numbers-same f f' n (λ v h. same v (omega arith))) (same n (omega arith))
 
 -- What the code asks: each state of the table of distances d stands at a vertex.
 pub record Standing (n : ℕ) (latests d : List ℕ) : Type 0 where

@@ -1,5 +1,3 @@
 -- Meaning for this crate's contracts: Ends (the table) and Least (how it is read off distances). Laws: EndsLaws, Filled.
 pub mod Ends
-pub mod EndsLaws
 pub mod Least
-pub mod Filled

@@ -17,7 +17,7 @@ use Rattle.rules.specs.Operations.{Binding, binding, area_after}
 use Rattle.rules.proofs.Laws.{bind-accepted}
 use Rattle.limits.specs.Limits.{area_size, most_paths, longest_path}
 use Rattle.ends.specs.Ends.{no_end, entry_of, ends}
-use Rattle.ends.specs.EndsLaws.{entry-best, entry-none, entry-start}
+use Rattle.ends.proofs.EndsLaws.{entry-best, entry-none, entry-start}
 use Rattle.reach.specs.declared.Reached.TheVariants.{Filled}
 use Rattle.reach.specs.Reaching.{reach_tests, answer_by, table_by, reached, table_after}
 use Rattle.examples.specs.Books.{bytes_a, book_a, book-A}

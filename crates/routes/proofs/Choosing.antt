@@ -12,7 +12,8 @@ use Rattle.distances.specs.Table.{at}
 use Rattle.distances.specs.Pack.{pack}
 use Rattle.product.specs.Product.{arc_at, step_to, is_open}
 use Rattle.routes.specs.Route.{is_usable}
-use Rattle.routes.specs.Word.{word, word_lt}
+use Rattle.routes.specs.Word.{word}
+use Rattle.routes.proofs.Word.{word_lt}
 use Rattle.product.proofs.Filling.{next-half}
 
 pub record Choosing (p : ℕ → Bool) (bits left chosen v : ℕ) : Type 0 where

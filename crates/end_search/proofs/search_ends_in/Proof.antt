@@ -4,7 +4,7 @@ use mathlib.Core.List.{◌++◌}
 use mathlib.Core.Path.{sym, ap, ◌∙◌}
 use lib.ListN.{drop}
 use lib.Seq.{length-take-le}
-use Rattle.ends.specs.Filled.{measured_standing, measured_ends}
+use Rattle.ends.proofs.Filled.{measured_standing, measured_ends}
 use borrow.Author.Rules.{rules}
 use Rattle.end_search.proofs.search_ends_in.Statement.{statement}
 use Rattle.end_search.proofs.search_ends_in.Tie as tie

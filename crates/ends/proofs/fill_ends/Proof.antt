@@ -7,7 +7,7 @@ use borrow.Author.Rules.{rules}
 use lib.ListN.{drop, get_or-replicate}
 use Rattle.limits.specs.Limits.{most_vertices}
 use Rattle.distances.specs.Table.{inf}
-use Rattle.ends.specs.Least.{numbers-same}
+use Rattle.ends.proofs.Least.{numbers-same}
 use Rattle.ends.proofs.fill_ends.Statement.{statement}
 use Rattle.ends.proofs.fill_ends.Tie as tie
 

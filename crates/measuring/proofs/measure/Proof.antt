@@ -8,7 +8,8 @@ use Rattle.walks.specs.Graph.{Graph}
 use Rattle.walks.specs.Weights.{Weights}
 use Rattle.automaton.specs.Area.{Spells, Bounded}
 use Rattle.automaton.specs.Built.{Built}
-use Rattle.routes.specs.Plan.{prepared-fits, Measured}
+use Rattle.routes.specs.Plan.{Measured}
+use Rattle.routes.proofs.Plan.{prepared-fits}
 use Rattle.measuring.specs.Work.{built-counted, front_length, front-prepared, front-edges, back-length, back_measured}
 use borrow.Author.Rules.{rules}
 use Rattle.measuring.proofs.measure.Statement.{statement}

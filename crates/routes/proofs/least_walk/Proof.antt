@@ -1,7 +1,7 @@
 -- `routes::least_walk` meets its contract. Assumes nothing.
 use native.Mathlib.Omega.{arith}
-use Rattle.routes.specs.Guiding.{entry-near}
-use Rattle.routes.specs.Plan.{measured_guiding, measured_start, start-short, searched-none, searched-walk}
+use Rattle.routes.proofs.Guiding.{entry-near}
+use Rattle.routes.proofs.Plan.{measured_guiding, measured_start, start-short, searched-none, searched-walk}
 use borrow.Author.Rules.{rules}
 use Rattle.routes.proofs.least_walk.Statement.{statement}
 use Rattle.routes.proofs.least_walk.Tie as tie

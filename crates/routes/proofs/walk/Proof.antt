@@ -8,7 +8,7 @@ use Rattle.distances.specs.Pack.{hops_limit}
 use Rattle.product.specs.Product.{step_to}
 use Rattle.routes.specs.Route.{next}
 use Rattle.product.specs.Fits.{Row}
-use Rattle.routes.specs.Guiding.{node}
+use Rattle.routes.proofs.Guiding.{node}
 use Rattle.routes.proofs.Walking.{Walking, walking_start, walking_guided, walking_next, walking_done}
 use Rattle.routes.proofs.walk.Statement.{statement}
 use Rattle.routes.proofs.walk.Tie as tie

@@ -22,11 +22,14 @@ use Rattle.automaton.specs.Built.{Built}
 use Rattle.product.specs.Product.{state_edges}
 use Rattle.product.specs.ProductLaws.{weighted}
 use Rattle.product.specs.Base.{base, targets, directed, at_base, within-directed}
-use Rattle.routes.specs.Route.{walk-best, walk-weight, start_none, length-route}
-use Rattle.routes.specs.Plan.{Measured, prepared-fits}
+use Rattle.routes.specs.Route.{length-route}
+use Rattle.routes.proofs.Route.{walk-best, walk-weight, start_none}
+use Rattle.routes.specs.Plan.{Measured}
+use Rattle.routes.proofs.Plan.{prepared-fits}
 use Rattle.ends.specs.Ends.{entry_of, ends}
-use Rattle.ends.specs.EndsLaws.{entry-best, entry-none}
-use Rattle.ends.specs.Least.{least_at, told, told-near, told-far, numbers, entries, Standing}
+use Rattle.ends.proofs.EndsLaws.{entry-best, entry-none}
+use Rattle.ends.specs.Least.{least_at, told, numbers, entries, Standing}
+use Rattle.ends.proofs.Least.{told-near, told-far}
 
 module _ {g : Graph} {F : List (List ℕ)} {m : ℕ} {steps blockeds latests weights : List ℕ} (built : Built F g.count m steps blockeds latests) (table : Weights g weights)
     (s : ℕ) (below : s < g.count) (clear : Avoids F (s ∷ [])) (paths : length F ≤ most_paths) (size : (r : List ℕ) → Memᴰ r F → length r ≤ longest_path) where
