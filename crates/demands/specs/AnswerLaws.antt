@@ -25,7 +25,8 @@ use Rattle.walk_check.specs.Checking.{checked_unless, occurrence, check_tests, c
 use Rattle.planner.specs.declared.Outcome.{Outcome}
 use Rattle.planner.specs.Planning.{plan_tests, Planned, PlanningOf}
 use Rattle.listed.specs.Listing.{listing}
-use Rattle.listed.specs.SameBook.{arcs_of, listed-book}
+use Rattle.listed.specs.SameBook.{arcs_of}
+use Rattle.listed.proofs.SameBook.{listed-book}
 use Rattle.trial_record.specs.declared.Record.{Record}
 use Rattle.trial_rules.specs.Trials.{State, run}
 use Rattle.trials.specs.declared.Begun.{Begun}

@@ -20,7 +20,7 @@ use Rattle.rules.specs.ValidLaws.{Valid}
 use Rattle.rules.specs.Operations.{bound_as, binding, area_after}
 use Rattle.planner.specs.declared.Outcome.{Outcome}
 use Rattle.planner.specs.Planning.{plan_tests, Planned, PlanningOf}
-use Rattle.planner.specs.ValidArea.{valid-bounded}
+use Rattle.planner.proofs.ValidArea.{valid-bounded}
 use Rattle.ends.specs.Ends.{no_end, entry_of, ends}
 use Rattle.ends.proofs.EndsLaws.{length-ends, ends-weight, ends-hops, entry-best, entry-none, none-entry, entry-start}
 use Rattle.reach.specs.declared.Reached.{Reached}

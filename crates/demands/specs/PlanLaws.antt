@@ -23,8 +23,8 @@ use Rattle.rules.proofs.Laws.{bind-accepted}
 use Rattle.routes.specs.Plan.{PlannedWalk}
 use Rattle.planner.specs.declared.Outcome.{Outcome}
 use Rattle.planner.specs.Planning.{plan_tests, Planned, PlanningOf, Planning}
-use Rattle.planner.specs.RuleSets.{planned-same}
-use Rattle.listed.specs.SameBook.{from-book}
+use Rattle.planner.proofs.RuleSets.{planned-same}
+use Rattle.listed.proofs.SameBook.{from-book}
 use Rattle.trial_rules.proofs.Plans.{plan-best}
 use Rattle.trials.specs.Replanning.{chosen-planner, known-set}
 use Rattle.demands.specs.Marks.{Clear, needs_nothing, known→sheet, sheet→known}

@@ -21,7 +21,8 @@ use Rattle.rules.proofs.Laws.{bind-accepted}
 use Rattle.walk_check.proofs.Laws.{sizes}
 use Rattle.planner.specs.declared.Outcome.{Outcome}
 use Rattle.planner.specs.Planning.{Planning}
-use Rattle.planner.specs.RuleSets.{SameWalks, equal-plans}
+use Rattle.planner.specs.RuleSets.{SameWalks}
+use Rattle.planner.proofs.RuleSets.{equal-plans}
 use Rattle.ends.specs.Ends.{entry_of, ends}
 use Rattle.reach.specs.Reaching.{reach_tests, answer_by, table_by, reached, table_after}
 use Rattle.trial_rules.specs.Trials.{ForbiddenSet}

@@ -4,7 +4,7 @@ use Rattle.std.proofs.Common.{ap, ◌∙◌, arith}
 use Rattle.text.specs.Text.{digits}
 use Rattle.board_text.specs.Board.{board_text}
 use Rattle.board_text.specs.Lines.{table_lines}
-use Rattle.board_text.specs.BoardLaws.{board_text_lem}
+use Rattle.board_text.proofs.BoardLaws.{board_text_lem}
 use Rattle.examples.specs.Books.{bytes_a, book_a, book-A}
 use Rattle.examples.specs.Ends.{ends-0, ends-3}
 use Rattle.examples.specs.Printed.{refused-at-0}

@@ -12,7 +12,8 @@ use Rattle.planner.specs.Planning.{PlanningOf}
 use Rattle.examples.specs.Plans.{Only, sums}
 use Rattle.listed.specs.declared.Arc.{Arc}
 use Rattle.listed.specs.Listing.{items, listing}
-use Rattle.listed.specs.SameBook.{arcs_of, listed-book, from-book}
+use Rattle.listed.specs.SameBook.{arcs_of}
+use Rattle.listed.proofs.SameBook.{listed-book, from-book}
 
 abbrev arc : ℕ → ℕ → ℕ → Arc
 arc tail head weight = record { tail = tail; head = head; weight = weight }

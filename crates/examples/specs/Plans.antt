@@ -21,7 +21,7 @@ use Rattle.planner.specs.declared.Outcome.{Outcome}
 use Rattle.planner.specs.declared.Outcome.TheVariants.{Walk, Nothing}
 use Rattle.limits.specs.Limits.{area_size, longest}
 use Rattle.planner.specs.Planning.{plan_tests, Planned, PlanningOf, Planning}
-use Rattle.planner.specs.RuleSets.{planned-same}
+use Rattle.planner.proofs.RuleSets.{planned-same}
 
 -- r and `new` meet what is said of an answer and its area, and nothing else does.
 pub record Only (P : Outcome → List ℕ → Type 0) (r : Outcome) (new : List ℕ) : Type 0 where

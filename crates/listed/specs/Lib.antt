@@ -5,4 +5,3 @@ pub mod Standing
 pub mod StandingLaws
 pub mod Reordered
 pub mod SameBook
-pub mod LongList

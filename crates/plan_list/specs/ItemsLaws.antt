@@ -5,7 +5,7 @@ use Rattle.book.specs.Book.{Book, WellFormed}
 use Rattle.book_bytes.specs.BookSize.{few-arcs}
 use Rattle.listed.specs.declared.Arc.{Arc as Item}
 use Rattle.listed.specs.Listing.{listing}
-use Rattle.listed.specs.LongList.{first-items}
+use Rattle.listed.proofs.LongList.{first-items}
 use Rattle.plan_list.specs.Items.{item_of, first_items, items_of, most_items, items_in}
 
 one_more : (i : ℕ) (s : List ℕ) → first_items (suc i) s ≡ first_items i s ++ (item_of (drop (i * 6) s) ∷ [])

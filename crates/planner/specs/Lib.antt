@@ -1,4 +1,3 @@
 -- Meaning: Planning. Laws: RuleSets (the order of the rule sets does not matter), ValidArea (what a valid runs area spells).
 pub mod Planning
 pub mod RuleSets
-pub mod ValidArea

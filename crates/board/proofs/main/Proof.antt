@@ -1,6 +1,6 @@
 -- `main` meets its contract: the text lies in the buffer.
 use borrow.Author.Rules.{rules}
-use Rattle.board_text.specs.BoardLaws.{printed_size, printed_within}
+use Rattle.board_text.proofs.BoardLaws.{printed_size, printed_within}
 use Rattle.board.proofs.main.Statement.{statement}
 use Rattle.board.proofs.main.Tie as tie
 

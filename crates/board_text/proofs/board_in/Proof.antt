@@ -7,7 +7,7 @@ use Rattle.book.specs.Reading.{reading}
 use Rattle.text.specs.Writing.{wrote_as}
 use Rattle.text.proofs.Parts.{part_rest}
 use Rattle.board_text.specs.Board.{board_of, board_by}
-use Rattle.board_text.specs.BoardLaws.{wrote_printed}
+use Rattle.board_text.proofs.BoardLaws.{wrote_printed}
 use Rattle.board_text.proofs.board_in.Statement.{statement}
 use Rattle.board_text.proofs.board_in.Tie as tie
 

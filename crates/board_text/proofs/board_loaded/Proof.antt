@@ -12,7 +12,7 @@ use Rattle.rules.specs.Binding.{known}
 use Rattle.rules.proofs.Laws.{gathered_valid, gathered_spells}
 use Rattle.text.specs.Writing.{wrote_as}
 use Rattle.board_text.specs.Board.{lines}
-use Rattle.board_text.specs.BoardLaws.{board_refused, board_lines, book-lines}
+use Rattle.board_text.proofs.BoardLaws.{board_refused, board_lines, book-lines}
 use Rattle.board_text.specs.Lines.{table_lines}
 use Rattle.board_text.proofs.board_loaded.Statement.{statement}
 use Rattle.board_text.proofs.board_loaded.Tie as tie

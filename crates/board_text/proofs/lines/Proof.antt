@@ -5,7 +5,8 @@ use native.Mathlib.Omega.{arith}
 use Prim.Native.Nat.{◌*◌, ◌-◌, ◌≤◌}
 use lib.ListN.{length}
 use Rattle.text.specs.Writing.{Wrote, wrote_none, wrote_then, wrote_as, wrote-length}
-use Rattle.board_text.specs.Lines.{table_lines, table_none, table-next}
+use Rattle.board_text.specs.Lines.{table_lines}
+use Rattle.board_text.proofs.LinesLaws.{table_none, table-next}
 use Rattle.board_text.proofs.lines.Statement.{statement}
 use Rattle.board_text.proofs.lines.Tie as tie
 

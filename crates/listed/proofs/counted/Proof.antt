@@ -1,5 +1,5 @@
 -- `counted` meets its contract: the limits that led to each return are those of the count.
-use Rattle.listed.specs.StandingLaws.{no_vertex, many_vertices, few-vertices}
+use Rattle.listed.proofs.StandingLaws.{no_vertex, many_vertices, few-vertices}
 use Rattle.listed.proofs.counted.Statement.{statement}
 use Rattle.listed.proofs.counted.Tie as tie
 

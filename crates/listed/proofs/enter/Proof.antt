@@ -4,7 +4,7 @@ use mathlib.Core.Path.{◌≡◌}
 use native.Mathlib.Omega.{arith}
 use Rattle.walks.specs.Graph.{Arc}
 use Rattle.listed.specs.Listing.{arc_of}
-use Rattle.listed.specs.StandingLaws.{item_stands}
+use Rattle.listed.proofs.StandingLaws.{item_stands}
 use Rattle.listed.proofs.enter.Statement.{statement}
 use Rattle.listed.proofs.enter.Tie as tie
 

@@ -1,6 +1,6 @@
 -- `load` meets its contract: what stands for the items so far goes on from each to the next.
 use Rattle.std.proofs.Common.{sym}
-use Rattle.listed.specs.StandingLaws.{going_first, going_book, going_on, going_last}
+use Rattle.listed.proofs.StandingLaws.{going_first, going_book, going_on, going_last}
 use Rattle.listed.proofs.load.Goals as goal
 
 pub loop-verdict-init : goal.loop-verdict-init

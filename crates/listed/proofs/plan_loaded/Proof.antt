@@ -1,6 +1,6 @@
 -- `plan_loaded` meets its contract: a refusal is handed on, and else planning is in the book that the list stands for.
 use borrow.Author.Rules.{rules}
-use Rattle.listed.specs.StandingLaws.{good_book, plans-book, plans-none}
+use Rattle.listed.proofs.StandingLaws.{good_book, plans-book, plans-none}
 use Rattle.listed.proofs.plan_loaded.Statement.{statement}
 use Rattle.listed.proofs.plan_loaded.Tie as tie
 

@@ -5,7 +5,7 @@ use Rattle.book.specs.Book.{graph}
 use Rattle.book.proofs.Loaded.{graph-few, graph-weights}
 use Rattle.rules.specs.Area.{spelled}
 use Rattle.rules.proofs.ValidLaws.{valid→Valid}
-use Rattle.planner.specs.ValidArea.{valid-spells, valid-bounded, valid-given}
+use Rattle.planner.proofs.ValidArea.{valid-spells, valid-bounded, valid-given}
 use Rattle.reach.proofs.fill.Statement.{statement}
 use Rattle.reach.proofs.fill.Tie as tie
 

@@ -1,6 +1,6 @@
 -- `board_case` meets its contract: the text lies in the buffer.
 use borrow.Author.Rules.{rules}
-use Rattle.board_text.specs.BoardLaws.{printed_size, printed_within}
+use Rattle.board_text.proofs.BoardLaws.{printed_size, printed_within}
 use Rattle.table_cases.proofs.board_case.Statement.{statement}
 use Rattle.table_cases.proofs.board_case.Tie as tie
 

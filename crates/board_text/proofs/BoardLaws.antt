@@ -19,7 +19,8 @@ use Rattle.text.specs.Writing.{Wrote, wrote-front, front-size, front-within}
 use Rattle.ends.specs.Ends.{ends}
 use Rattle.ends.proofs.EndsLaws.{best-numbers}
 use Rattle.board_text.specs.Board.{lines, board_as, board_of, board_by, board_text, Printed}
-use Rattle.board_text.specs.Lines.{Light, table_lines, ends-lines}
+use Rattle.board_text.specs.Lines.{Light, table_lines}
+use Rattle.board_text.proofs.LinesLaws.{ends-lines}
 
 -- ---- no best walk under the known paths of a book weighs as much as the mark of none
 module _ (b : Book) (well : WellFormed b) (flags s : ℕ) where

@@ -1,5 +1,4 @@
 -- No greatest length of the list is needed: where every well-formed book has fewer than k arcs, one of the first k items of a longer
--- list is bad.
 use Prim.Native.Nat.{ℕ, zero, suc, ◌+◌, ◌≤◌, ◌<◌}
 use Rattle.std.specs.Prelude.{◌≡◌, Bool, not, ◌&&◌, leb, length, take}
 use Rattle.std.proofs.Math.Path.{refl}
@@ -15,7 +14,8 @@ use Rattle.book.proofs.BookLaws.{arc-well_formed}
 use Rattle.book.specs.Reading.{and_then, outcome, add_arc}
 use Rattle.listed.specs.declared.Arc.{Arc as Item}
 use Rattle.listed.specs.Listing.{arc_of, items, listing}
-use Rattle.listed.specs.StandingLaws.{empty, empty-well_formed}
+use Rattle.listed.specs.StandingLaws.{empty}
+use Rattle.listed.proofs.StandingLaws.{empty-well_formed}
 
 module _ (k : ℕ) (fewer : (b : Book) → WellFormed b → length b.arcs < k) where
   front : (m i : ℕ) (xs : List Item) (b : Book) → WellFormed b → k ≤ length b.arcs + m → items i (take m xs) b ≡ items i xs b
