@@ -2,12 +2,3 @@
 -- these bytes and what follows from it, Longest a book of the greatest length; Field, Adding, Reads and Written lead to RoundTrip, BytesLaws counts
 -- the bytes, and BookSize and LongBook bound them.
 pub mod Bytes
-pub mod Field
-pub mod Adding
-pub mod Reads
-pub mod Written
-pub mod BytesLaws
-pub mod BookSize
-pub mod LongBook
-pub mod RoundTrip
-pub mod Longest

@@ -6,7 +6,7 @@ use Rattle.std.proofs.Math.Seq.{take-nil}
 use Rattle.book.specs.Reading.{reading, u16_at}
 use Rattle.answer.specs.Answer.{AnsweredOf, AnsweredBy, Answered}
 use Rattle.board_text.specs.Board.{board_of, board_by, board_text}
-use Rattle.book_bytes.specs.LongBook.{reading-front}
+use Rattle.book_bytes.proofs.LongBook.{reading-front}
 
 -- The book of a long input comes after a head of k bytes.
 book-front : (k m : ℕ) (s : List ℕ) → drop k (take (k + m) s) ≡ take m (drop k s)

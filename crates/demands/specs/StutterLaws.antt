@@ -20,7 +20,7 @@ use Rattle.book.specs.Book.{Book, RuleSet, All, IsArc, IsPath, all_paths, given,
 use Rattle.book.proofs.BookLaws.{reading-is-book, given_cons, all_map, all_left, all_right}
 use Rattle.book.specs.Reading.{accepted, reading, book_in}
 use Rattle.book_bytes.specs.Bytes.{Keeps, bytes_of}
-use Rattle.book_bytes.specs.RoundTrip.{every_book_read}
+use Rattle.book_bytes.proofs.RoundTrip.{every_book_read}
 use Rattle.rules.specs.declared.Bound.{Bound}
 use Rattle.rules.specs.Binding.{known}
 use Rattle.rules.specs.Area.{spelled, written}

@@ -1,8 +1,8 @@
 -- The three demands hold, and what 02, orders 1 and 2, adds to them.
-use Rattle.book_bytes.specs.BytesLaws.{bytes_below}
-use Rattle.book_bytes.specs.Longest.{full_book, full_keeps, full_length}
-use Rattle.book_bytes.specs.LongBook.{longest-book}
-use Rattle.book_bytes.specs.RoundTrip.{every_book_read, round_trip, refused_otherwise, same-book}
+use Rattle.book_bytes.proofs.BytesLaws.{bytes_below}
+use Rattle.book_bytes.proofs.Longest.{full_book, full_keeps, full_length}
+use Rattle.book_bytes.proofs.LongBook.{longest-book}
+use Rattle.book_bytes.proofs.RoundTrip.{every_book_read, round_trip, refused_otherwise, same-book}
 use Rattle.demands.specs.Demands.{Demand1, Demand2, Order1, Order2, Demand3}
 use Rattle.demands.specs.AnswerLaws.{answers}
 use Rattle.demands.specs.RefusalLaws.{refusals}

@@ -2,7 +2,7 @@
 use Rattle.std.specs.Prelude.{ℕ, zero, suc, ◌+◌, ◌*◌, ◌/◌, ◌≤◌, ◌<◌, ◌≡◌, refl, Bool, true, false, cond, List, [], ◌∷◌, ◌++◌, ltb, length, take, drop, set}
 use Rattle.std.proofs.Common.{le_refl, le_of_lt, add-one, arith, sym, ap, ◌∙◌, ltb-true, ltb-false, drop-drop, take-suc-set}
 use Rattle.book.specs.Book.{Book, WellFormed}
-use Rattle.book_bytes.specs.BookSize.{few-arcs}
+use Rattle.book_bytes.proofs.BookSize.{few-arcs}
 use Rattle.listed.specs.declared.Arc.{Arc as Item}
 use Rattle.listed.specs.Listing.{listing}
 use Rattle.listed.proofs.LongList.{first-items}

@@ -19,7 +19,7 @@ use Rattle.book.specs.Book.{Book, WellFormed, blank, given, proper_arc, are_vert
 use Rattle.book.proofs.BookLaws.{blank-well_formed, field-passed, field_extends, field-well_formed, and-then-accepted}
 use Rattle.book.specs.Reading.{Reading, accepted, refused, reading, fields, field, and_then, outcome, taken, content, extended, add_path, follows, fits, kind_of, kind_at, length_at, end_at, arc_at, flags_at, path_at}
 use Rattle.book_bytes.specs.Bytes.{longest_book}
-use Rattle.book_bytes.specs.BookSize.{Sized, size-bound, next-sized}
+use Rattle.book_bytes.proofs.BookSize.{Sized, size-bound, next-sized}
 
 -- ---- a field looks at no byte behind its own
 -- what the four tests of the frame and the rest come to

@@ -17,9 +17,9 @@ use Rattle.book.specs.BookLaws.{Passed}
 use Rattle.book.proofs.BookLaws.{all_snoc, not-zero, field-passed, field_extends, field-well_formed, blank-well_formed, reading-is-book, enough_turns, and-then-accepted}
 use Rattle.book.specs.Reading.{accepted, kind_at, length_at, end_at, follows, fits, proper, extended, add_path, field, fields, reading}
 use Rattle.book_bytes.specs.Bytes.{AreBytes, count_field, arc_field, flags_field, path_field, set_fields, bytes_of, Keeps}
-use Rattle.book_bytes.specs.Field.{Value, value_at, written, kind_moved, length_moved, value_moved, byte-below, field-again}
-use Rattle.book_bytes.specs.Adding.{added, proper_value, extended-added, proper-value}
-use Rattle.book_bytes.specs.Reads.{stop, reads-fields}
+use Rattle.book_bytes.proofs.Field.{Value, value_at, written, kind_moved, length_moved, value_moved, byte-below, field-again}
+use Rattle.book_bytes.proofs.Adding.{added, proper_value, extended-added, proper-value}
+use Rattle.book_bytes.proofs.ReadsLaws.{stop, reads-fields}
 
 -- ---- a field adds its bytes to the book's
 flat_append : {A : Type 0} (f : A → List ℕ) (xs ys : List A) → flat_map f (xs ++ ys) ≡ flat_map f xs ++ flat_map f ys

@@ -9,7 +9,7 @@ use Rattle.book.proofs.RefusalLaws.{hold→none}
 use Rattle.book.specs.Book.{RuleSet, Book, given, proper_arc, are_vertices}
 use Rattle.book.specs.BookLaws.{bare}
 use Rattle.book.specs.Reading.{accepted, kind_at, length_at, end_at, follows, fits, proper, fresh, room, framing, content, extended, add_path, add_arc, outcome, field}
-use Rattle.book_bytes.specs.Field.{Value, value_at, body_of, written, length-written, kind_moved, length_moved, value_moved, kind-first, length-first, value-first}
+use Rattle.book_bytes.proofs.Field.{Value, value_at, body_of, written, length-written, kind_moved, length_moved, value_moved, kind-first, length-first, value-first}
 
 -- ---- a value added to a book, and its tests
 abbrev pub added : (k : Kind) → Book → Value k → Book

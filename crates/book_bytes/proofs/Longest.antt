@@ -9,8 +9,8 @@ use Rattle.book.specs.Book.{Book, All, PairsOnce, all_paths, given, proper_arc, 
 use Rattle.book.proofs.BookLaws.{is-arc, is_path→IsPath, given_cons}
 use Rattle.book.specs.Reading.{accepted, reading}
 use Rattle.book_bytes.specs.Bytes.{AreBytes, bytes_of, Keeps, longest_book}
-use Rattle.book_bytes.specs.BytesLaws.{bytes_below, length-bytes}
-use Rattle.book_bytes.specs.RoundTrip.{every_book_read}
+use Rattle.book_bytes.proofs.BytesLaws.{bytes_below, length-bytes}
+use Rattle.book_bytes.proofs.RoundTrip.{every_book_read}
 
 -- n numbers from u on
 abbrev pub up_from : ℕ → ℕ → List ℕ

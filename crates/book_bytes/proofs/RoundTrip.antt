@@ -5,9 +5,9 @@ use Rattle.book.specs.declared.Refusal.{Refusal}
 use Rattle.book.specs.Book.{Book}
 use Rattle.book.specs.Reading.{Reading, accepted, refused, reading}
 use Rattle.book_bytes.specs.Bytes.{AreBytes, bytes_of, Keeps, longest_book}
-use Rattle.book_bytes.specs.Reads.{book-reads, reads-fields}
-use Rattle.book_bytes.specs.Written.{read_keeps, read-bytes}
-use Rattle.book_bytes.specs.LongBook.{longest-book}
+use Rattle.book_bytes.proofs.ReadsLaws.{book-reads, reads-fields}
+use Rattle.book_bytes.proofs.Written.{read_keeps, read-bytes}
+use Rattle.book_bytes.proofs.LongBook.{longest-book}
 
 -- Every book that keeps the rules is read.
 pub every_book_read : (b : Book) → Keeps b → reading (bytes_of b) ≡ accepted b

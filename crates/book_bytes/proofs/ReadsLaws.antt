@@ -15,8 +15,8 @@ use Rattle.book.specs.Book.{RuleSet, Book, blank, All, IsArc, PairsOnce, IsPath,
 use Rattle.book.proofs.BookLaws.{all_left, all_right, arc-passes, not-before, IsPath→is_path}
 use Rattle.book.specs.Reading.{Reading, accepted, end_at, add_path, and_then, field, fields}
 use Rattle.book_bytes.specs.Bytes.{count_field, arc_field, path_field, set_fields, bytes_of, Keeps}
-use Rattle.book_bytes.specs.Field.{Value, written, length-written}
-use Rattle.book_bytes.specs.Adding.{added, Takes, end_read, field-read}
+use Rattle.book_bytes.proofs.Field.{Value, written, length-written}
+use Rattle.book_bytes.proofs.Adding.{added, Takes, end_read, field-read}
 
 -- The bytes x take what has been read from b to b'.
 pub data Reads : Book → List ℕ → Book → Type 0 where

@@ -1,0 +1,9 @@
+pub mod Adding
+pub mod BookSize
+pub mod BytesLaws
+pub mod Field
+pub mod LongBook
+pub mod Longest
+pub mod ReadsLaws
+pub mod RoundTrip
+pub mod Written
