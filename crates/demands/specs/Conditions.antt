@@ -28,10 +28,6 @@ abbrev pub FirstFails : ℕ → List Condition → Refusal → Type 0
 FirstFails at [] x = ⊥
 FirstFails at (c ∷ cs) x = ((c.holds → ⊥) × HasNumber x c.number at) ⊎ (c.holds × FirstFails at cs x)
 
--- There is one refusal of a number and place.
-pub one-refusal : {x y : Refusal} {n at : ℕ} → HasNumber x n at → HasNumber y n at → x ≡ y
-one-refusal {x} {y} h k = sym (refusal-again x) ∙ ap₂ numbered (h.0 ∙ sym k.0) (h.1 ∙ sym k.1) ∙ refusal-again y
-
 -- ---- tests that decide conditions
 -- One after the other: a test has to decide its condition only where those before it hold.
 abbrev pub Decides : ℕ → List Test → List Condition → Type 0
@@ -39,49 +35,3 @@ Decides at [] [] = Unit {0}
 Decides at [] (c ∷ cs) = ⊥
 Decides at (t ∷ ts) [] = ⊥
 Decides at (t ∷ ts) (c ∷ cs) = ((t.holds ≡ true) ↔ c.holds) × HasNumber t.refusal c.number at × (c.holds → Decides at ts cs)
-
-pub first-none : (at : ℕ) (ts : List Test) (cs : List Condition) → Decides at ts cs → (first_failure ts ≡ none) ↔ AllHold cs
-first-none at [] [] d = (λ _. tt, λ _. refl)
-first-none at [] (c ∷ cs) d = absurd d
-first-none at (t ∷ ts) [] d = absurd d
-first-none at (t ∷ ts) (c ∷ cs) (same, is, rest) = go t.holds refl (first-none at ts cs)
-  where
-    go : (h : Bool) → t.holds ≡ h → (Decides at ts cs → (first_failure ts ≡ none) ↔ AllHold cs)
-        → (cond h (first_failure ts) (some t.refusal) ≡ none) ↔ (c.holds × AllHold cs)
-    go true e later = (λ q. (same.0 e, (later (rest (same.0 e))).0 q), λ a. (later (rest a.0)).1 a.1)
-    go false e later = (λ q. absurd (none-ne-some _ (sym q)), λ a. absurd (true≢false (sym (same.1 a.0) ∙ e)))
-
-pub first_some : (at : ℕ) (ts : List Test) (cs : List Condition) (x : Refusal) → Decides at ts cs → (first_failure ts ≡ some x) ↔ FirstFails at cs x
-first_some at [] [] x d = (none-ne-some x, λ a. absurd a)
-first_some at [] (c ∷ cs) x d = absurd d
-first_some at (t ∷ ts) [] x d = absurd d
-first_some at (t ∷ ts) (c ∷ cs) x (same, is, rest) = go t.holds refl (first_some at ts cs x)
-  where
-    go : (h : Bool) → t.holds ≡ h → (Decides at ts cs → (first_failure ts ≡ some x) ↔ FirstFails at cs x)
-        → (cond h (first_failure ts) (some t.refusal) ≡ some x) ↔ FirstFails at (c ∷ cs) x
-    go true e later = (λ q. inr (same.0 e, (later (rest (same.0 e))).0 q), back)
-      where
-        back : FirstFails at (c ∷ cs) x → first_failure ts ≡ some x
-        back (inl (no-c, _)) = absurd (no-c (same.0 e))
-        back (inr (yes-c, f)) = (later (rest yes-c)).1 f
-    go false e later = (λ q. let here : t.refusal ≡ x = cc q in inl (λ a. true≢false (sym (same.1 a) ∙ e), subst (λ (y : Refusal). HasNumber y c.number at) here is), back)
-      where
-        back : FirstFails at (c ∷ cs) x → some t.refusal ≡ some x
-        back (inl (_, has)) = ap some (one-refusal is has)
-        back (inr (yes-c, _)) = absurd (true≢false (sym (same.1 yes-c) ∙ e))
-
--- ---- tests on numbers
-pub zero_one : {A : Type 0} → ◌≡◌ {A = ℕ} 0 1 → A
-zero_one e = absurd (omega arith)
-
-pub le_iff : (a b : ℕ) → (leb a b ≡ true) ↔ (a ≤ b)
-le_iff a b = (leb-true a b, le-leb a b)
-
-pub lt_iff : (a b : ℕ) → (ltb a b ≡ true) ↔ (a < b)
-lt_iff a b = (ltb-true a b, lt-ltb a b)
-
-pub eq_iff : (a b : ℕ) → (eqb a b ≡ true) ↔ (a ≡ b)
-eq_iff a b = (eqb-true a b, eq-eqb a b)
-
-pub and-iff : {A B : Type 0} (x y : Bool) → (x ≡ true) ↔ A → (y ≡ true) ↔ B → (x && y ≡ true) ↔ (A × B)
-and-iff x y a b = (λ e. let (p, q) = and-true x y e in (a.0 p, b.0 q), λ h. ap₂ ◌&&◌ (a.1 h.0) (b.1 h.1))

@@ -7,14 +7,3 @@ pub mod Fields
 pub mod Asked
 pub mod Calls
 pub mod Demands
-pub mod RefusalLaws
-pub mod AnswerLaws
-pub mod PlanLaws
-pub mod EndLaws
-pub mod SamePlans
-pub mod SheetOrder
-pub mod StutterLaws
-pub mod CallLaws
-pub mod LabLaws
-pub mod Theorems
-pub mod Witnesses

@@ -6,11 +6,10 @@ use Rattle.board_text.specs.Board.{board_text}
 use Rattle.board_text.specs.Lines.{table_lines}
 use Rattle.board_text.proofs.BoardLaws.{board_text_lem}
 use Rattle.examples.specs.Books.{bytes_a, book_a, book-A}
-use Rattle.examples.specs.Ends.{ends-0, ends-3}
 use Rattle.examples.specs.Printed.{refused-at-0}
 
 -- Start 0: `0 LITRES 0 CHANGES 0`, `1 LITRES 100 CHANGES 1`, `2 LITRES 200 CHANGES 2`, `3 LITRES 450 CHANGES 5`
-abbrev lines-0 : List ℕ
+abbrev pub lines-0 : List ℕ
 lines-0 =
     48 ∷ 32 ∷ 76 ∷ 73 ∷ 84 ∷ 82 ∷ 69 ∷ 83 ∷ 32 ∷ 48 ∷ 32 ∷ 67 ∷ 72 ∷ 65 ∷ 78 ∷ 71 ∷ 69 ∷ 83 ∷ 32 ∷ 48 ∷ 10
     ∷ 49 ∷ 32 ∷ 76 ∷ 73 ∷ 84 ∷ 82 ∷ 69 ∷ 83 ∷ 32 ∷ 49 ∷ 48 ∷ 48 ∷ 32 ∷ 67 ∷ 72 ∷ 65 ∷ 78 ∷ 71 ∷ 69 ∷ 83 ∷ 32 ∷ 49 ∷ 10
@@ -18,24 +17,11 @@ lines-0 =
     ∷ 51 ∷ 32 ∷ 76 ∷ 73 ∷ 84 ∷ 82 ∷ 69 ∷ 83 ∷ 32 ∷ 52 ∷ 53 ∷ 48 ∷ 32 ∷ 67 ∷ 72 ∷ 65 ∷ 78 ∷ 71 ∷ 69 ∷ 83 ∷ 32 ∷ 53 ∷ 10
     ∷ []
 
-pub printed_0 : board_text (0 ∷ 3 ∷ 0 ∷ bytes_a) ≡ lines-0
-unfolding table_lines digits
-printed_0 = board_text_lem (0 ∷ 3 ∷ 0 ∷ bytes_a) book_a (omega arith) book-A (omega arith) ∙ ap (λ t. table_lines t 4) ends-0
-
 -- Start 3: `0 NONE`, `1 NONE`, `2 NONE`, `3 LITRES 0 CHANGES 0`
-abbrev lines-3 : List ℕ
+abbrev pub lines-3 : List ℕ
 lines-3 =
     48 ∷ 32 ∷ 78 ∷ 79 ∷ 78 ∷ 69 ∷ 10
     ∷ 49 ∷ 32 ∷ 78 ∷ 79 ∷ 78 ∷ 69 ∷ 10
     ∷ 50 ∷ 32 ∷ 78 ∷ 79 ∷ 78 ∷ 69 ∷ 10
     ∷ 51 ∷ 32 ∷ 76 ∷ 73 ∷ 84 ∷ 82 ∷ 69 ∷ 83 ∷ 32 ∷ 48 ∷ 32 ∷ 67 ∷ 72 ∷ 65 ∷ 78 ∷ 71 ∷ 69 ∷ 83 ∷ 32 ∷ 48 ∷ 10
     ∷ []
-
-pub printed_3 : board_text (0 ∷ 3 ∷ 3 ∷ bytes_a) ≡ lines-3
-unfolding table_lines digits
-printed_3 = board_text_lem (0 ∷ 3 ∷ 3 ∷ bytes_a) book_a (omega arith) book-A (omega arith) ∙ ap (λ t. table_lines t 4) ends-3
-
--- Two bytes: `REFUSED 1 AT 0`
-pub short_printed : board_text (0 ∷ 3 ∷ []) ≡ refused-at-0 49
-unfolding digits
-short_printed = refl

@@ -43,57 +43,9 @@ pub record Sums : Type 0 where
   pub from-0 : Fills bytes_a 3 0 4 table-0
   pub from-3 : Fills bytes_a 3 3 4 table-3
 
--- ---- from the definition of the table
-module _ (s : List ℕ) (b : Book) (read : reading s ≡ accepted b) (flags start : ℕ) (below : ltb start b.count ≡ true) where
-  fills : (numbers : List ℕ) → ends (graph b) (known flags b.sets) start b.count ≡ numbers → Fills s flags start b.count numbers
-  fills numbers are paths table fits long =
-      let F = known flags b.sets in
-      let is = binds s b read flags paths fits in
-      let after = area_after (binding s flags paths) paths in
-      let f = bind-accepted s flags paths F is in
-      let valid-b : valid b.count after (length F) ≡ true = subst (λ (x : Book). valid x.count after (length F) ≡ true) (ap book_in (sym f.read ∙ read)) f.validity in
-      let unrefused : refusal_by (reach_tests after (length F) start table b) ≡ none =
-      hold→none (reach_tests after (length F) start table b) (le-leb area_size (length after) f.long, (le-leb (2 * b.count) (length table) long, (below, (valid-b, tt)))) in (
-        F,
-        is,
-        ap (λ x. reached x after (length F) start table) read ∙ ap (λ o. answer_by o (graph b)) unrefused,
-        ap (λ x. table_after x after (length F) start table) read ∙ ap₂ (λ o G. table_by o (graph b) G start table) unrefused f.spells ∙ ap (λ l. l ++ drop (2 * b.count) table) are,
-      )
-
 -- ---- the entries of book A under marks 3
-abbrev known-3 : List (List ℕ)
+abbrev pub known-3 : List (List ℕ)
 known-3 = known 3 book_a.sets
 
-few : length known-3 ≤ most_paths
-few = known-few 3 book_a well-A
-
-short : (r : List ℕ) → Memᴰ r known-3 → length r ≤ longest_path
-short r m = (all-member (IsPath 4) known-3 (known-paths 3 book_a well-A) r m).eight
-
-abbrev entry : ℕ → ℕ → List ℕ
+abbrev pub entry : ℕ → ℕ → List ℕ
 entry s t = entry_of graph_a (chosen graph_a known-3 s t)
-
-to : {s t n k : ℕ} {w : List ℕ} → Plan graph_a known-3 s t w n k → entry s t ≡ n ∷ k ∷ []
-to {s} {t} p = entry-best graph_a known-3 s t (omega arith) few short p.best ∙ ap₂ (λ x y. x ∷ y ∷ []) p.weighs p.takes
-
-off : {s t : ℕ} → None graph_a known-3 s t → entry s t ≡ no_end ∷ no_end ∷ []
-off {s} {t} n = entry-none graph_a known-3 s t (omega arith) few short n
-
-own : (s : ℕ) → s < 4 → entry s s ≡ 0 ∷ 0 ∷ []
-own s h = entry-start graph_a known-3 s (omega arith) few short (λ r m. (all-member (IsPath 4) known-3 (known-paths 3 book_a well-A) r m).two) h
-
--- the table is its four entries
-four : (s : ℕ) {a b c d : List ℕ} → entry s 0 ≡ a → entry s 1 ≡ b → entry s 2 ≡ c → entry s 3 ≡ d → ends graph_a known-3 s 4 ≡ ((a ++ b) ++ c) ++ d
-unfolding ends
-four s e0 e1 e2 e3 = ap₂ (λ l x. l ++ x) (ap₂ (λ l x. l ++ x) (ap₂ (λ l x. l ++ x) e0 e1) e2) e3
-
-pub ends-0 : ends graph_a (known 3 book_a.sets) 0 4 ≡ table-0
-unfolding covers applied
-ends-0 = four 0 (own 0 (omega arith)) (to best-to-1) (to best-to-2) (to marks_3)
-
-pub ends-3 : ends graph_a (known 3 book_a.sets) 3 4 ≡ table-3
-unfolding covers applied
-ends-3 = four 3 (off none-to-0) (off none-to-1) (off none-to-2) (own 3 (omega arith))
-
-pub sums : Sums
-sums = record { from-0 = fills bytes_a book_a book-A 3 0 refl _ ends-0; from-3 = fills bytes_a book_a book-A 3 3 refl _ ends-3 }

@@ -33,9 +33,10 @@ use Rattle.trials.specs.declared.Begun.{Begun}
 use Rattle.trials.specs.Operations.{begun_as, first_state}
 use Rattle.series.specs.Reports.{reports_of}
 use Rattle.demands.specs.Demands.{ClearOrOccurs, tests_of_begin, WalkOrNone, GetsPlan, Answers}
-use Rattle.demands.specs.RefusalLaws.{check_finds}
+use Rattle.demands.proofs.RefusalLaws.{check_finds}
 use Rattle.demands.specs.Conditions.{AllHold}
-use Rattle.demands.specs.Asked.{plan_conditions, check_conditions, conditions}
+use Rattle.demands.specs.Asked.{plan_conditions, check_conditions}
+use Rattle.demands.proofs.Asked.{conditions}
 
 -- ---- planning
 -- Where nothing is refused, the best walk or its absence is an answer, and there is no other kind.

@@ -27,11 +27,12 @@ use Rattle.planner.proofs.RuleSets.{planned-same}
 use Rattle.listed.proofs.SameBook.{from-book}
 use Rattle.trial_rules.proofs.Plans.{plan-best}
 use Rattle.trials.specs.Replanning.{chosen-planner, known-set}
-use Rattle.demands.specs.Marks.{Clear, needs_nothing, known→sheet, sheet→known}
-use Rattle.demands.specs.Conditions.{zero_one}
-use Rattle.demands.specs.Asked.{conditions}
+use Rattle.demands.specs.Marks.{Clear}
+use Rattle.demands.proofs.Marks.{needs_nothing, known→sheet, sheet→known}
+use Rattle.demands.proofs.Conditions.{zero_one}
+use Rattle.demands.proofs.Asked.{conditions}
 use Rattle.demands.specs.Demands.{Allowed, Shortest, Plans, BatchPlans}
-use Rattle.demands.specs.AnswerLaws.{binds, binds-valid, answers}
+use Rattle.demands.proofs.AnswerLaws.{binds, binds-valid, answers}
 
 -- ---- the known paths are those of the sheets that bind
 module _ (b : Book) (flags : ℕ) where

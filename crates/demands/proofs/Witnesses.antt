@@ -1,6 +1,4 @@
 -- The premises of demand 3 can be met: on book A, under marks 3, from 0 to 3, for all lent areas that are long enough, by a lab whose trials end
--- in a passed line-up and by one whose trials end in none. Each of them also makes a report that is refused. And so can the premise of 02, order 2, on plans: book A and
--- one with the run 1 1 besides.
 use Rattle.std.specs.Prelude.{ℕ, ◌≤◌, refl, T, length}
 use Rattle.std.proofs.Math.Path.{◌≡◌, ap, ap₂, subst}
 use Rattle.std.proofs.Common.{sym, ◌∙◌, inl, inr, ⊎_elim, arith}
@@ -30,10 +28,10 @@ use Rattle.examples.specs.Books.{bytes_a, book_a, book-A, bytes_stutter, book_st
 use Rattle.examples.specs.Sums.{graph_a, plan_a, well-A, begun-3, after-123, after-13, long_after, valid-3, sums}
 use Rattle.examples.specs.Trials.{not_there, too_late}
 use Rattle.demands.specs.Calls.{AcceptedBegin, opening, answer_on, answers_on, accepted_by, accepted_on, standing_in, TrueReport, TrueLab, LabSet}
-use Rattle.demands.specs.CallLaws.{many_of_either, refused-kept, report-is, answer-is}
+use Rattle.demands.proofs.CallLaws.{many_of_either, refused-kept, report-is, answer-is}
 use Rattle.demands.specs.Demands.{LabOutcome, ButStutteringRuns, SamePlans}
-use Rattle.demands.specs.LabLaws.{labs}
-use Rattle.demands.specs.Theorems.{order-2}
+use Rattle.demands.proofs.LabLaws.{labs}
+use Rattle.demands.proofs.Theorems.{order-2}
 
 -- The runs that are named.
 abbrev pub path-123 : List ℕ

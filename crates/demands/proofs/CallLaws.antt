@@ -28,7 +28,7 @@ use Rattle.trials.specs.Operations.{Leaves, answering, begun_as, beginning, begi
 use Rattle.trials.specs.OperationLaws.{same_step}
 use Rattle.trials.specs.Replanning.{known-set}
 use Rattle.series.specs.Whole.{leaves_of, report_leaves, after-keeps, opened}
-use Rattle.demands.specs.Marks.{known→sheet, sheet→known}
+use Rattle.demands.proofs.Marks.{known→sheet, sheet→known}
 use Rattle.demands.specs.Calls.{answer_on, answers_on, accepted_by, accepted_on, TrueReport, TrueLab, HowMany, OfEither, LabsOnly, Free}
 
 -- ---- how many

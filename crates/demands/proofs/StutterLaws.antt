@@ -36,14 +36,15 @@ use Rattle.judging.specs.Judging.{state_of}
 use Rattle.trials.specs.declared.Reported.{Reported}
 use Rattle.trials.specs.Operations.{answering, reported_as, reporting}
 use Rattle.trials.specs.Replanning.{known-set}
-use Rattle.demands.specs.Marks.{OfSheet, known→sheet, sheet→known}
-use Rattle.demands.specs.Asked.{conditions}
+use Rattle.demands.specs.Marks.{OfSheet}
+use Rattle.demands.proofs.Marks.{known→sheet, sheet→known}
+use Rattle.demands.proofs.Asked.{conditions}
 use Rattle.demands.specs.Calls.{HowMany}
 use Rattle.demands.specs.Demands.{IsRun, Tried, ButStutteringRuns, SamePlans}
-use Rattle.demands.specs.RefusalLaws.{refusals}
-use Rattle.demands.specs.AnswerLaws.{binds}
-use Rattle.demands.specs.PlanLaws.{count-is}
-use Rattle.demands.specs.SamePlans.{same-plans}
+use Rattle.demands.proofs.RefusalLaws.{refusals}
+use Rattle.demands.proofs.AnswerLaws.{binds}
+use Rattle.demands.proofs.PlanLaws.{count-is}
+use Rattle.demands.proofs.SamePlans.{same-plans}
 
 -- ---- any run is taken
 are_paths : (count : ℕ) (F : List (List ℕ)) → All (IsRun count) F → All (IsPath count) F

@@ -28,8 +28,8 @@ use Rattle.reach.specs.Reaching.{reach_tests, answer_by, table_by, reached, tabl
 use Rattle.trial_rules.specs.Trials.{ForbiddenSet}
 use Rattle.trial_rules.proofs.Tests.{set-paths}
 use Rattle.trials.specs.Replanning.{known-set}
-use Rattle.demands.specs.AnswerLaws.{binds}
-use Rattle.demands.specs.PlanLaws.{count-is}
+use Rattle.demands.proofs.AnswerLaws.{binds}
+use Rattle.demands.proofs.PlanLaws.{count-is}
 use Rattle.demands.specs.Demands.{SamePlans}
 
 -- ---- the best walk under two lists of paths that leave the same walks

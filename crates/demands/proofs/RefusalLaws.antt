@@ -29,9 +29,11 @@ use Rattle.trials.specs.declared.Begun.{Begun}
 use Rattle.trials.specs.declared.Reported.{Reported}
 use Rattle.trials.specs.Operations.{answering, begun_as, first_state, reported_as, reporting}
 use Rattle.series.specs.Reports.{reports_of}
-use Rattle.demands.specs.Conditions.{Condition, zero_one}
-use Rattle.demands.specs.Fields.{bad_book, bad_list}
-use Rattle.demands.specs.Asked.{Judges, conditions}
+use Rattle.demands.specs.Conditions.{Condition}
+use Rattle.demands.proofs.Conditions.{zero_one}
+use Rattle.demands.proofs.Fields.{bad_book, bad_list}
+use Rattle.demands.specs.Asked.{Judges}
+use Rattle.demands.proofs.Asked.{conditions}
 use Rattle.demands.specs.Demands.{ClearOrOccurs, tests_of_begin, Exactly, Refusals}
 
 -- ---- the proofs

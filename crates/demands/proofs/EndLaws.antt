@@ -25,10 +25,10 @@ use Rattle.ends.specs.Ends.{no_end, entry_of, ends}
 use Rattle.ends.proofs.EndsLaws.{length-ends, ends-weight, ends-hops, entry-best, entry-none, none-entry, entry-start}
 use Rattle.reach.specs.declared.Reached.{Reached}
 use Rattle.reach.specs.Reaching.{reach_tests, answer_by, table_by, Reaching}
-use Rattle.demands.specs.Asked.{conditions}
+use Rattle.demands.proofs.Asked.{conditions}
 use Rattle.demands.specs.Demands.{entry_for, entry_at, PlanTo, EveryEnd}
-use Rattle.demands.specs.AnswerLaws.{answers, binds-valid}
-use Rattle.demands.specs.PlanLaws.{count-is}
+use Rattle.demands.proofs.AnswerLaws.{answers, binds-valid}
+use Rattle.demands.proofs.PlanLaws.{count-is}
 
 -- An entry has two numbers.
 two-numbers : (g : Graph) (o : Option (List ℕ)) → get_or (entry_of g o) 0 0 ∷ get_or (entry_of g o) 1 0 ∷ [] ≡ entry_of g o

@@ -25,10 +25,10 @@ use Rattle.trial_rules.proofs.Tests.{set-paths, set-once}
 use Rattle.trials.specs.declared.Begun.{Begun}
 use Rattle.trials.specs.Operations.{Leaves, begun_as, beginning_of, beginning}
 use Rattle.trials.specs.Replanning.{known-set}
-use Rattle.demands.specs.Conditions.{zero_one}
-use Rattle.demands.specs.AnswerLaws.{binds}
+use Rattle.demands.proofs.Conditions.{zero_one}
+use Rattle.demands.proofs.AnswerLaws.{binds}
 use Rattle.demands.specs.Demands.{SameTrials, SameAnswers}
-use Rattle.demands.specs.SamePlans.{other-set, same_graph, same_choice, same-plans}
+use Rattle.demands.proofs.SamePlans.{other-set, same_graph, same_choice, same-plans}
 
 -- ---- begin, under two sets of the same paths
 -- Two sets of the same paths have as many.

@@ -4,13 +4,13 @@ use Rattle.book_bytes.proofs.Longest.{full_book, full_keeps, full_length}
 use Rattle.book_bytes.proofs.LongBook.{longest-book}
 use Rattle.book_bytes.proofs.RoundTrip.{every_book_read, round_trip, refused_otherwise, same-book}
 use Rattle.demands.specs.Demands.{Demand1, Demand2, Order1, Order2, Demand3}
-use Rattle.demands.specs.AnswerLaws.{answers}
-use Rattle.demands.specs.RefusalLaws.{refusals}
-use Rattle.demands.specs.PlanLaws.{batch-plans}
-use Rattle.demands.specs.EndLaws.{every_end, batch-ends}
-use Rattle.demands.specs.SheetOrder.{same-answers}
-use Rattle.demands.specs.StutterLaws as stutters
-use Rattle.demands.specs.LabLaws.{ruled, labs, replay-labs}
+use Rattle.demands.proofs.AnswerLaws.{answers}
+use Rattle.demands.proofs.RefusalLaws.{refusals}
+use Rattle.demands.proofs.PlanLaws.{batch-plans}
+use Rattle.demands.proofs.EndLaws.{every_end, batch-ends}
+use Rattle.demands.proofs.SheetOrder.{same-answers}
+use Rattle.demands.proofs.StutterLaws as stutters
+use Rattle.demands.proofs.LabLaws.{ruled, labs, replay-labs}
 
 pub demand_1 : Demand1
 demand_1 =

@@ -1,0 +1,199 @@
+-- 01, 'Who can cause a refusal', of the book's maker: 1 to 6 in words, field by field. 'The first bad field decides', and 'refusals 1 to 6 carry the
+use Prim.Native.Nat.{ℕ, zero, suc, ◌+◌, ◌≤◌, ◌<◌}
+use Rattle.std.specs.Prelude.{◌≡◌, Bool, not, ◌&&◌, ◌||◌, ◌↔◌, ◌⊎◌, eqb, leb, length}
+use Rattle.std.proofs.Math.Path.{refl, ap}
+use Rattle.std.proofs.Common.{sym, ap₂, subst, ◌∙◌, true≢false, inl, inr, arith, lt-ltb, ltb-true, eqb-true, eq-eqb, ne_eqb}
+use Rattle.std.proofs.Math.Bool.{true, false, cond}
+use Rattle.std.proofs.lemmas.Bool.{false≢true, not-true}
+use mathlib.Core.List.{List, [], ◌∷◌, ◌++◌, Memᴰ}
+use Rattle.std.proofs.Math.Option.{Option, none, some}
+use Rattle.std.proofs.Math.Dec.{ltb}
+use Rattle.limits.specs.Limits.{most_vertices, most_sets, most_paths, longest_path}
+use Rattle.lists.specs.Test.{and-true, or_false}
+use Rattle.walks.specs.Graph.{Arc}
+use Rattle.book.specs.declared.Kind.{Kind}
+use Rattle.book.specs.declared.Kind.TheVariants.{VertexCount, Path, Unknown}
+use Rattle.book.specs.declared.Refusal.{Refusal}
+use Rattle.book.specs.Refusal.{Test, numbered, first_failure}
+use Rattle.book.specs.Book.{Book, RuleSet, All, IsArc, blank, all_paths, given, proper_arc}
+use Rattle.book.proofs.BookLaws.{is-arc, arc-passes, vertices-below, below-vertices, given_cons, not-zero}
+use Rattle.book.specs.Reading.{accepted, refused, reading, and_then, outcome, fields, field, framing, content, extended, kind_at, length_at, end_at, count_at, arc_at, path_at, follows, fits, proper, fresh, room, add_arc, arc_tests}
+use Rattle.rules.proofs.Sets.{refuted}
+use Rattle.listed.specs.declared.Arc.{Arc as Item}
+use Rattle.listed.specs.Listing.{arc_of, counting, items, listing}
+use Rattle.demands.specs.Conditions.{Condition, asks, AllHold, HasNumber, FirstFails, Decides}
+use Rattle.demands.proofs.Conditions.{one-refusal, first-none, first_some, le_iff, lt_iff, eq_iff, and-iff, zero_one}
+use Rattle.demands.specs.Fields.{Follows, Fits, Proper, New, Fresh, HasRoom, field_conditions, BadField, bad_field, good-field, BadBook, count_conditions, item_conditions, BadItem, bad_item, good_item, with_count, BadList, field_tests}
+
+-- ---- each test
+nothing-asked : (true ≡ true) ↔ Unit {0}
+nothing-asked = (λ _. tt, λ _. refl)
+
+never : (false ≡ true) ↔ ⊥
+never = (false≢true, λ x. absurd x)
+
+pos_iff : (n : ℕ) → (not (eqb n 0) ≡ true) ↔ (0 < n)
+pos_iff n = (not-zero n, λ l. ap not (ne_eqb n 0 (omega arith)))
+
+not_iff : {A : Type 0} (x : Bool) → (x ≡ false) ↔ A → (not x ≡ true) ↔ A
+not_iff x a = (λ e. a.0 (not-true x e), λ h. ap not (a.1 h))
+
+follows-iff : (k : Kind) (b : Book) → (follows b.count (length b.sets) k ≡ true) ↔ Follows k b
+follows-iff VertexCount b = eq_iff b.count 0
+follows-iff Kind.Arc b = and-iff (not (eqb b.count 0)) (eqb (length b.sets) 0) (pos_iff b.count) (eq_iff (length b.sets) 0)
+follows-iff Kind.RuleSet b = pos_iff b.count
+follows-iff Path b = pos_iff (length b.sets)
+follows-iff Unknown b = never
+
+fits_iff : (k : Kind) (n : ℕ) → (fits k n ≡ true) ↔ Fits k n
+fits_iff VertexCount n = eq_iff n 1
+fits_iff Kind.Arc n = eq_iff n 6
+fits_iff Kind.RuleSet n = eq_iff n 2
+fits_iff Path n = and-iff (leb 2 n) (leb n longest_path) (le_iff 2 n) (le_iff n longest_path)
+fits_iff Unknown n = never
+
+arc-iff : (n : ℕ) (a : Arc) → (proper_arc n a ≡ true) ↔ IsArc n a
+arc-iff n a = (is-arc n a, arc-passes n a)
+
+proper-iff : (k : Kind) (s : List ℕ) (b : Book) (at : ℕ) → (proper k s b at ≡ true) ↔ Proper k s b at
+proper-iff VertexCount s b at = and-iff (leb 1 (count_at s at)) (leb (count_at s at) most_vertices) (le_iff 1 (count_at s at)) (le_iff (count_at s at) most_vertices)
+proper-iff Kind.Arc s b at = arc-iff b.count (arc_at s at)
+proper-iff Kind.RuleSet s b at = nothing-asked
+proper-iff Path s b at = (vertices-below b.count (path_at s at), below-vertices b.count (path_at s at))
+proper-iff Unknown s b at = nothing-asked
+
+new-iff : (arcs : List Arc) (a : Arc) → (given arcs a.tail a.head ≡ false) ↔ New arcs a
+new-iff arcs a = (λ e before m. to m e, from arcs)
+  where
+    same : Arc → Bool
+    same c = eqb c.tail a.tail && eqb c.head a.head
+
+    to : {before : Arc} {xs : List Arc} → Memᴰ before xs → given xs a.tail a.head ≡ false → before.tail ≡ a.tail → before.head ≡ a.head → ⊥
+    to {before} (Memᴰ.head {x = c} {xs = xs} is) e t h =
+        let here : same before ≡ false = ap same is ∙ (or_false (same c) (given xs a.tail a.head) (sym (given_cons c xs a.tail a.head) ∙ e)).0 in
+        true≢false (sym (ap₂ ◌&&◌ (eq-eqb _ _ t) (eq-eqb _ _ h)) ∙ here)
+    to (Memᴰ.tail {x = c} {xs = xs} m) e t h = to m (or_false (same c) (given xs a.tail a.head) (sym (given_cons c xs a.tail a.head) ∙ e)).1 t h
+
+    from : (xs : List Arc) → New xs a → given xs a.tail a.head ≡ false
+    from [] new = refl
+    from (c ∷ xs) new =
+        let other : same c ≡ false = refuted (same c) (λ e. let (t, h) = and-true (eqb c.tail a.tail) (eqb c.head a.head) e in new c (Memᴰ.head refl) (eqb-true _ _ t) (eqb-true _ _ h)) in
+        given_cons c xs a.tail a.head ∙ ap₂ ◌||◌ other (from xs (λ before m. new before (Memᴰ.tail m)))
+
+fresh-iff : (k : Kind) (s : List ℕ) (b : Book) (at : ℕ) → (fresh k s b at ≡ true) ↔ Fresh k s b at
+fresh-iff VertexCount s b at = nothing-asked
+fresh-iff Kind.Arc s b at = not_iff (given b.arcs (arc_at s at).tail (arc_at s at).head) (new-iff b.arcs (arc_at s at))
+fresh-iff Kind.RuleSet s b at = nothing-asked
+fresh-iff Path s b at = nothing-asked
+fresh-iff Unknown s b at = nothing-asked
+
+room-iff : (k : Kind) (b : Book) → (room k b ≡ true) ↔ HasRoom k b
+room-iff VertexCount b = nothing-asked
+room-iff Kind.Arc b = nothing-asked
+room-iff Kind.RuleSet b = lt_iff (length b.sets) most_sets
+room-iff Path b = lt_iff (length (all_paths b.sets)) most_paths
+room-iff Unknown b = nothing-asked
+
+field-decides : (s : List ℕ) (b : Book) (at : ℕ) → Decides at (field_tests s b at) (field_conditions s b at)
+field-decides s b at =
+    let k = kind_at s at in (
+      le_iff (at + 3) (length s),
+      (refl, refl),
+      λ _. (
+        follows-iff k b,
+        (refl, refl),
+        λ _. (
+          fits_iff k (length_at s at),
+          (refl, refl),
+          λ _. (
+            le_iff (end_at s at) (length s),
+            (refl, refl),
+            λ _. (proper-iff k s b at, (refl, refl), λ _. (fresh-iff k s b at, (refl, refl), λ _. (room-iff k b, (refl, refl), λ _. tt))),
+          ),
+        ),
+      ),
+    )
+
+module _ (s : List ℕ) (x : Refusal) where
+  to_bad : (turns : ℕ) (b : Book) (at : ℕ) → fields turns s b at ≡ refused x → BadField s b at x
+  unfolding fields
+  to_bad zero b at e = zero_one (cc)
+  to_bad (suc turns) b at e = inside (ltb at (length s)) refl e (to_bad turns)
+    where
+      inside : (t : Bool) → ltb at (length s) ≡ t → cond t (and_then (field s b at) (λ b'. fields turns s b' (end_at s at))) (accepted b) ≡ refused x
+          → ((b' : Book) (at' : ℕ) → fields turns s b' at' ≡ refused x → BadField s b' at' x) → BadField s b at x
+      inside false l e ih = zero_one (cc)
+      inside true l e ih = by (first_failure (field_tests s b at)) refl e
+        where
+          by : (o : Option Refusal) → first_failure (field_tests s b at) ≡ o → and_then (outcome o (extended (kind_at s at) s b at)) (λ b'. fields turns s b' (end_at s at)) ≡ refused x → BadField s b at x
+          by none f e = good-field (ltb-true _ _ l) ((first-none at (field_tests s b at) (field_conditions s b at) (field-decides s b at)).0 f) (ih _ _ e)
+          by (some y) f e = let same : y ≡ x = cc in bad_field (ltb-true _ _ l) ((first_some at (field_tests s b at) (field_conditions s b at) x (field-decides s b at)).0 (f ∙ ap some same))
+
+  from_bad : (turns : ℕ) {b : Book} {at : ℕ} → BadField s b at x → length s ≤ at + turns → fields turns s b at ≡ refused x
+  unfolding fields
+  from_bad zero (bad_field l f) enough = absurd (omega arith)
+  from_bad zero (good-field l h rest) enough = absurd (omega arith)
+  from_bad (suc turns) (bad_field {b = b} {at = at} l f) enough =
+      ap (λ t. cond t (and_then (field s b at) (λ b'. fields turns s b' (end_at s at))) (accepted b)) (lt-ltb at (length s) l)
+      ∙ ap (λ o. and_then (outcome o (extended (kind_at s at) s b at)) (λ b'. fields turns s b' (end_at s at))) ((first_some at (field_tests s b at) (field_conditions s b at) x (field-decides s b at)).1 f)
+  from_bad (suc turns) (good-field {b = b} {at = at} l h rest) enough =
+      ap (λ t. cond t (and_then (field s b at) (λ b'. fields turns s b' (end_at s at))) (accepted b)) (lt-ltb at (length s) l)
+      ∙ ap (λ o. and_then (outcome o (extended (kind_at s at) s b at)) (λ b'. fields turns s b' (end_at s at))) ((first-none at (field_tests s b at) (field_conditions s b at) (field-decides s b at)).1 h)
+      ∙ from_bad turns rest (omega arith)
+
+nothing_in_none : {b : Book} {at : ℕ} {x : Refusal} → BadField [] b at x → ⊥
+nothing_in_none (bad_field l f) = omega arith
+nothing_in_none (good-field l h rest) = omega arith
+
+-- Reading is refused under x exactly for a bad book.
+pub bad_book : (s : List ℕ) (x : Refusal) → (reading s ≡ refused x) ↔ BadBook s x
+unfolding reading
+bad_book [] x = (λ e. let same : numbered 1 0 ≡ x = cc in inl (refl, subst (λ (y : Refusal). HasNumber y 1 0) same (refl, refl)), from)
+  where
+    from : BadBook [] x → refused (numbered 1 0) ≡ refused x
+    from (inl (_, has)) = let same : numbered 1 0 ≡ x = one-refusal {n = 1} {at = 0} (refl, refl) has in ap refused same
+    from (inr f) = absurd (nothing_in_none f)
+bad_book (c ∷ s) x = (λ e. inr (to_bad (c ∷ s) x (length (c ∷ s)) blank 0 e), from)
+  where
+    from : BadBook (c ∷ s) x → fields (length (c ∷ s)) (c ∷ s) blank 0 ≡ refused x
+    from (inl (e, _)) = zero_one (cc)
+    from (inr f) = from_bad (c ∷ s) x (length (c ∷ s)) f (omega arith)
+
+-- ---- a list
+item_decides : (i : ℕ) (b : Book) (a : Arc) → Decides i (arc_tests b i a) (item_conditions b a)
+item_decides i b a = (arc-iff b.count a, (refl, refl), λ _. (not_iff (given b.arcs a.tail a.head) (new-iff b.arcs a), (refl, refl), λ _. tt))
+
+count-decides : (n : ℕ) → Decides 0 (counting n) (count_conditions n)
+count-decides n = (and-iff (leb 1 n) (leb n most_vertices) (le_iff 1 n) (le_iff n most_vertices), (refl, refl), λ _. tt)
+
+module _ (x : Refusal) where
+  to_bad_item : (i : ℕ) (xs : List Item) (b : Book) → items i xs b ≡ refused x → BadItem i xs b x
+  unfolding items
+  to_bad_item i [] b e = zero_one (cc)
+  to_bad_item i (a ∷ xs) b e = by (first_failure (arc_tests b i (arc_of a))) refl e (to_bad_item (suc i) xs)
+    where
+      by : (o : Option Refusal) → first_failure (arc_tests b i (arc_of a)) ≡ o → and_then (outcome o (add_arc b (arc_of a))) (items (suc i) xs) ≡ refused x
+          → ((b' : Book) → items (suc i) xs b' ≡ refused x → BadItem (suc i) xs b' x) → BadItem i (a ∷ xs) b x
+      by none f e ih = good_item ((first-none i (arc_tests b i (arc_of a)) (item_conditions b (arc_of a)) (item_decides i b (arc_of a))).0 f) (ih _ e)
+      by (some y) f e ih = let same : y ≡ x = cc in bad_item ((first_some i (arc_tests b i (arc_of a)) (item_conditions b (arc_of a)) x (item_decides i b (arc_of a))).0 (f ∙ ap some same))
+
+  from_bad_item : {i : ℕ} {xs : List Item} {b : Book} → BadItem i xs b x → items i xs b ≡ refused x
+  unfolding items
+  from_bad_item (bad_item {i = i} {a = a} {xs = xs} {b = b} f) =
+      ap (λ o. and_then (outcome o (add_arc b (arc_of a))) (items (suc i) xs)) ((first_some i (arc_tests b i (arc_of a)) (item_conditions b (arc_of a)) x (item_decides i b (arc_of a))).1 f)
+  from_bad_item (good_item {i = i} {a = a} {xs = xs} {b = b} h rest) =
+      ap (λ o. and_then (outcome o (add_arc b (arc_of a))) (items (suc i) xs)) ((first-none i (arc_tests b i (arc_of a)) (item_conditions b (arc_of a)) (item_decides i b (arc_of a))).1 h)
+      ∙ from_bad_item rest
+
+-- A list is refused under x exactly for a bad count or a bad item.
+pub bad_list : (n : ℕ) (xs : List Item) (x : Refusal) → (listing n xs ≡ refused x) ↔ BadList n xs x
+bad_list n xs x = (λ e. to (first_failure (counting n)) refl e, from)
+  where
+    to : (o : Option Refusal) → first_failure (counting n) ≡ o → and_then (outcome o (with_count n)) (items 0 xs) ≡ refused x → BadList n xs x
+    to none f e = inr ((first-none 0 (counting n) (count_conditions n) (count-decides n)).0 f, to_bad_item x 0 xs (with_count n) e)
+    to (some y) f e = let same : y ≡ x = cc in inl ((first_some 0 (counting n) (count_conditions n) x (count-decides n)).0 (f ∙ ap some same))
+
+    from : BadList n xs x → listing n xs ≡ refused x
+    from (inl f) = ap (λ o. and_then (outcome o (with_count n)) (items 0 xs)) ((first_some 0 (counting n) (count_conditions n) x (count-decides n)).1 f)
+    from (inr (h, rest)) =
+        ap (λ o. and_then (outcome o (with_count n)) (items 0 xs)) ((first-none 0 (counting n) (count_conditions n) (count-decides n)).1 h) ∙ from_bad_item x rest

@@ -1,0 +1,15 @@
+pub mod AnswerLaws
+pub mod CallLaws
+pub mod EndLaws
+pub mod LabLaws
+pub mod PlanLaws
+pub mod RefusalLaws
+pub mod SamePlans
+pub mod SheetOrder
+pub mod StutterLaws
+pub mod Theorems
+pub mod Witnesses
+pub mod Conditions
+pub mod Fields
+pub mod Marks
+pub mod Asked

@@ -1,0 +1,56 @@
+-- Which sheets bind a batch, mark by mark, and what contains none of their runs; and that the definitions of binding decide this.
+use Rattle.std.specs.Prelude.{ℕ, zero, suc, ◌/◌, ◌%◌, ◌^◌, ◌<◌, ◌≤◌, ◌≡◌, refl, true, ◌↔◌, leb}
+use Rattle.std.proofs.Common.{sym, ap, ◌∙◌, div-one, arith, leb-true, le-leb}
+use mathlib.Core.List.{List, Memᴰ}
+use Rattle.std.proofs.Math.Logic.{by_cases}
+use Rattle.std.proofs.Math.Nat.{pow-zero, pow-succ', div-div-eq-div-mul, zero-div}
+use Rattle.std.proofs.Math.Decide.{ℕ_discrete}
+use Rattle.lists.specs.Test.{and-true}
+use Rattle.walks.specs.Avoid.{Occurs}
+use Rattle.book.specs.Book.{RuleSet, Book}
+use Rattle.rules.specs.Binding.{covers, applies, known}
+use Rattle.rules.proofs.Laws.{known→Applied, Applied→known}
+use Rattle.demands.specs.Marks.{bit, Binds, OfSheet}
+
+first_bit : (n : ℕ) → bit n 0 ≡ n % 2
+first_bit n = ap (λ k. n / k % 2) (pow-zero 2) ∙ ap (λ k. k % 2) (div-one n)
+
+next_bit : (n i : ℕ) → bit n (suc i) ≡ bit (n / 2) i
+next_bit n i = ap (λ k. k % 2) (ap (λ k. n / k) (pow-succ' 2 i) ∙ sym (div-div-eq-div-mul n 2 (2 ^ i)))
+
+covers→ : (bits needed held : ℕ) → covers bits needed held ≡ true → (i : ℕ) → i < bits → bit needed i ≡ 1 → bit held i ≡ 1
+unfolding covers
+covers→ zero needed held e i l h = absurd (omega arith)
+covers→ (suc bits) needed held e zero l h =
+    let low = leb-true (needed % 2) (held % 2) (and-true (leb (needed % 2) (held % 2)) _ e).0 in
+    omega (arith, first_bit needed, first_bit held)
+covers→ (suc bits) needed held e (suc i) l h =
+    next_bit held i ∙ covers→ bits (needed / 2) (held / 2) (and-true (leb (needed % 2) (held % 2)) _ e).1 i (omega arith) (sym (next_bit needed i) ∙ h)
+
+→covers : (bits needed held : ℕ) → ((i : ℕ) → i < bits → bit needed i ≡ 1 → bit held i ≡ 1) → covers bits needed held ≡ true
+unfolding covers
+→covers zero needed held f = refl
+→covers (suc bits) needed held f =
+    let low : needed % 2 ≤ held % 2 =
+    by_cases (ℕ_discrete (needed % 2) 1) (λ e. omega (arith, first_bit held, f 0 (omega arith) (first_bit needed ∙ e))) (λ (d : ¬ (needed % 2 ≡ 1)). omega arith) in
+    rw (le-leb (needed % 2) (held % 2) low) (→covers bits (needed / 2) (held / 2) (λ i l h. sym (next_bit held i) ∙ f (suc i) (omega arith) (next_bit needed i ∙ h)))
+
+-- The test of binding decides this.
+pub binds_when : (set : RuleSet) (flags : ℕ) → (applies flags set ≡ true) ↔ Binds set flags
+binds_when set flags = (covers→ 16 set.flags flags, →covers 16 set.flags flags)
+
+-- A sheet that needs 0 binds every batch.
+pub needs_nothing : (set : RuleSet) → set.flags ≡ 0 → (flags : ℕ) → Binds set flags
+needs_nothing set none flags i l h =
+    let zero_bit : bit set.flags i ≡ 0 = ap (λ n. bit n i) none ∙ ap (λ n. n % 2) (zero-div (2 ^ i)) in
+    absurd (omega arith)
+
+-- The known paths are the runs of the sheets that bind.
+module _ (b : Book) (flags : ℕ) {r : List ℕ} where
+  pub known→sheet : Memᴰ r (known flags b.sets) → OfSheet b flags r
+  known→sheet m =
+      let a = known→Applied flags b.sets m in
+      record { set = a.set; listed = a.listed; binds = (binds_when a.set flags).0 a.applying; path = a.path }
+
+  pub sheet→known : OfSheet b flags r → Memᴰ r (known flags b.sets)
+  sheet→known o = Applied→known flags b.sets (record { set = o.set; listed = o.listed; applying = (binds_when o.set flags).1 o.binds; path = o.path })
