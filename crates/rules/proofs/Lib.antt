@@ -10,4 +10,5 @@ pub mod BindingLaws
 pub mod Laws
 pub mod Numbers
 pub mod Sets
+pub mod EntryPath
 pub mod ValidLaws

@@ -18,13 +18,11 @@ use Rattle.book.proofs.EntryLaws.{length-padded, length-entries}
 use Rattle.rules.proofs.AreaLaws.{path-of-entry, blocks-entries, spelled-entries}
 use Rattle.rules.proofs.Sets.{same_true, true_same}
 use Rattle.rules.specs.ValidLaws.{Valid}
+use Rattle.rules.proofs.EntryPath.{entry-path}
 
 -- ---- entries
 pub entry-fits : (v : ℕ) (e : List ℕ) → is_entry v e ≡ true → get_or e 0 0 ≤ longest_path
 entry-fits v e h = leb-true _ _ (and-true (leb (get_or e 0 0) longest_path) _ h).0
-
-entry-path : (v : ℕ) (e : List ℕ) → is_entry v e ≡ true → IsPath v (path_of e)
-entry-path v e h = is_path→IsPath v (path_of e) (and-true (leb (get_or e 0 0) longest_path) _ h).1
 
 path-entry : (v : ℕ) (p : List ℕ) → IsPath v p → is_entry v (entry p) ≡ true
 path-entry v p h = ap (λ q. leb (length p) longest_path && is_path v q) (path-of-entry p) ∙ rw (le-leb _ _ h.eight, IsPath→is_path v p h)

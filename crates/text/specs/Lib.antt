@@ -1,4 +1,3 @@
 -- Meaning: Text. Laws: TextLaws, Writing (what a function that writes leaves).
 pub mod Text
-pub mod TextLaws
 pub mod Writing

@@ -15,12 +15,7 @@ use Rattle.walk_check.specs.declared.Checked.TheVariants.{Clear, Occurs as Occur
 use Rattle.lists.specs.Paste.{slice_part}
 use Rattle.walk_check.specs.Checking.{ends_at, some_ends, first_from, named_at, answer_at, check_from, occurrence}
 use Rattle.rules.proofs.Sets.{same_true, true_same, refuted}
-
--- ---- the first number that passes
-pub first-none : (p : ℕ → Bool) (k n : ℕ) → ((m : ℕ) → n ≤ m → p m ≡ false) → first_from p k n ≡ none
-unfolding first_from
-first-none p zero n h = refl
-first-none p (suc k) n h = rw (h n (omega arith)) (first-none p k (suc n) (λ m l. h m (omega arith)))
+use Rattle.walk_check.proofs.NoFirst.{first-none}
 
 -- what a search from `from` says of the numbers before the one that it finds
 pub record First (p : ℕ → Bool) (from n : ℕ) : Type 0 where

@@ -18,7 +18,7 @@ use Rattle.rules.specs.Area.{blocks, path_of, spelled}
 use Rattle.rules.proofs.AreaLaws.{length-byte, path_part, path-size}
 use Rattle.lists.specs.Paste.{slice_part}
 use Rattle.walk_check.specs.Checking.{ends_at, some_ends, first_from, named_at, answer_at, check_from}
-use Rattle.walk_check.proofs.CheckLaws.{first-none}
+use Rattle.walk_check.proofs.NoFirst.{first-none}
 use Rattle.rules.proofs.Entries.{any-map, blocks_start, any_past, any_here, any-later}
 
 -- ---- the lengths from n on

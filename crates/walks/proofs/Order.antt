@@ -5,12 +5,7 @@ use Rattle.std.proofs.Math.Decide.{dec_lt}
 use Rattle.walks.specs.Graph.{Graph}
 use Rattle.walks.specs.Walk.{weight_of, hops}
 use Rattle.walks.specs.Order.{Tiebreak, Lex, ◌≼⟨◌⟩◌}
-
-pub Tiebreak-trans : {a b c : ℕ} {R S U : Type 0} → (R → S → U) → Tiebreak a b R → Tiebreak b c S → Tiebreak a c U
-Tiebreak-trans f (inl p) (inl q) = inl (omega arith)
-Tiebreak-trans f (inl p) (inr q) = inl (omega arith)
-Tiebreak-trans f (inr p) (inl q) = inl (omega arith)
-Tiebreak-trans f (inr p) (inr q) = inr (p.0 ∙ q.0, f p.1 q.1)
+use Rattle.walks.proofs.Preorder.{Tiebreak-trans, Lex-refl, Lex-trans}
 
 -- Two numbers that go each before the other are equal, and R and S decide.
 pub Tiebreak-antisym : {a b : ℕ} {R S : Type 0} → Tiebreak a b R → Tiebreak b a S → (a ≡ b) × R × S
@@ -27,16 +22,6 @@ Tiebreak-total a b {R} {S} t = go (dec_lt a b) (dec_lt b a) t
     go (no p) (yes q) t' = inr (inl q)
     go (no p) (no q) (inl r) = inl (inr (omega arith, r))
     go (no p) (no q) (inr r) = inr (inr (omega arith, r))
-
-pub Lex-refl : (w : List ℕ) → Lex w w
-Lex-refl [] = tt
-Lex-refl (a ∷ w) = inr (refl, Lex-refl w)
-
-pub Lex-trans : (u v w : List ℕ) → Lex u v → Lex v w → Lex u w
-Lex-trans [] v w p q = tt
-Lex-trans (a ∷ u) [] w p q = absurd p
-Lex-trans (a ∷ u) (b ∷ v) [] p q = absurd q
-Lex-trans (a ∷ u) (b ∷ v) (c ∷ w) p q = Tiebreak-trans (Lex-trans u v w) p q
 
 pub Lex-antisym : (v w : List ℕ) → Lex v w → Lex w v → v ≡ w
 Lex-antisym [] [] p q = refl

@@ -5,7 +5,7 @@ use mathlib.Core.List.{[], ◌∷◌, ◌++◌}
 use Prim.Native.Nat.{◌+◌, ◌≤◌}
 use lib.ListN.{length}
 use Rattle.text.specs.Text.{decimal}
-use Rattle.text.specs.TextLaws.{decimal-word}
+use Rattle.text.proofs.TextLaws.{decimal-word}
 use Rattle.text.specs.Writing.{Wrote, wrote_as, wrote_then}
 use Rattle.board_text.proofs.LinesLaws.{none_line, cost_line}
 use Rattle.board_text.proofs.line.Statement.{statement}

@@ -1,7 +1,7 @@
 -- By recursion over the digits: there is room for a single digit, and for the last of several behind those before it.
 use Rattle.std.proofs.Common.{ℕ, ◌≡◌, ◌+◌, ◌/◌, ◌%◌, ◌≤◌, ◌<◌, ◌∷◌, [], length, sym, ap, ◌∙◌, arith, length-append}
 use Rattle.text.specs.Text.{decimal as Text-decimal}
-use Rattle.text.specs.TextLaws.{decimal_digit, decimal-next}
+use Rattle.text.proofs.TextLaws.{decimal_digit, decimal-next}
 use Rattle.text.specs.Writing.{wrote_as, wrote-byte, wrote_then}
 use Rattle.text.proofs.+decimal.Goals as goal
 

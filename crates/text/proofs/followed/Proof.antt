@@ -7,7 +7,7 @@ use Prim.Native.Nat.{◌+◌, ◌*◌, ◌-◌, ◌≤◌}
 use lib.ListN.{length, take}
 use lib.Seq.{take_all}
 use Rattle.text.specs.Text as Text
-use Rattle.text.specs.TextLaws.{followed-none, followed-next}
+use Rattle.text.proofs.TextLaws.{followed-none, followed-next}
 use Rattle.text.specs.Writing.{Wrote, wrote_none, wrote_then, wrote_as, wrote-length}
 use Rattle.text.proofs.followed.Statement.{statement}
 use Rattle.text.proofs.followed.Tie as tie

@@ -1,7 +1,7 @@
 -- `named` meets its contract.
 use borrow.Author.Rules.{rules}
 use native.Mathlib.Omega.{arith}
-use Rattle.text.specs.TextLaws.{decimal-word}
+use Rattle.text.proofs.TextLaws.{decimal-word}
 use Rattle.text.specs.Writing.{wrote_then}
 use Rattle.text.proofs.named.Statement.{statement}
 use Rattle.text.proofs.named.Tie as tie

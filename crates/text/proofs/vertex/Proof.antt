@@ -3,7 +3,7 @@ use borrow.Author.Rules.{rules}
 use mathlib.Core.Path.{◌∙◌}
 use native.Mathlib.Omega.{arith}
 use lib.ListN.{length-set}
-use Rattle.text.specs.TextLaws.{decimal-byte}
+use Rattle.text.proofs.TextLaws.{decimal-byte}
 use Rattle.text.specs.Writing.{wrote-byte, wrote_then}
 use Rattle.text.proofs.vertex.Statement.{statement}
 use Rattle.text.proofs.vertex.Tie as tie

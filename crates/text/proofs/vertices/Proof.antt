@@ -6,7 +6,7 @@ use native.Mathlib.Omega.{arith}
 use Prim.Native.Nat.{◌<◌}
 use lib.ListN.{get_or}
 use Rattle.text.specs.Text.{decimal, followed}
-use Rattle.text.specs.TextLaws.{decimal-byte, vertices-split}
+use Rattle.text.proofs.TextLaws.{decimal-byte, vertices-split}
 use Rattle.text.specs.Writing.{wrote_as, wrote_then}
 use Rattle.text.proofs.Parts.{part_rest, part_length}
 use Rattle.text.proofs.vertices.Statement.{statement}
