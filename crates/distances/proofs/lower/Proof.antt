@@ -109,8 +109,8 @@ loop-again c =
     let i : l.i ≡ suc (l.i - 1) = omega arith in
     let here = subst (λ k. Lowering c.args.tails.now c.args.heads.now c.args.costs.now c.args.table.now c.args.h k l.table) i l.invariant in
     rw (chained c.before.before.before.before.before) (elim c.if-reach-table.branch [
-      then-reach-table w ↦ rw w.table-is (lowering_lower _ _ _ _ _ c.requires.0 (l.i - 1) here w.if-reach-table.true)
-    | else-reach-table w ↦ rw w.table-is (lowering_keep _ _ _ _ _ c.requires.0 (l.i - 1) here w.if-reach-table.false)
+      | then-reach-table w ↦ rw w.table-is (lowering_lower _ _ _ _ _ c.requires.0 (l.i - 1) here w.if-reach-table.true)
+      | else-reach-table w ↦ rw w.table-is (lowering_keep _ _ _ _ _ c.requires.0 (l.i - 1) here w.if-reach-table.false)
     ])
 
 same_length : tie.Need-shape_of-table invariant-loop decreases-loop

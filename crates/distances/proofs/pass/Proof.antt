@@ -95,8 +95,8 @@ loop-again c =
     let t : Turn es a.old.now (edge_at a.tails.now a.heads.now a.costs.now c.loop-i.i ∷ drop (c.loop-i.i + 1) es) c.loop-i.new c.loop-i.changed =
     rw (add-one, ← drop-edges a.tails.now a.heads.now a.costs.now c.loop-i.i (omega arith) (omega arith) (omega arith)) c.loop-i.invariant.2 in
     elim c.if-reach-new.branch [
-      then-reach-new w ↦ (omega arith, rw w.new-is (simp length-set (omega arith)), rw (w.new-is, w.changed-is) (turn_lower es a.old.now _ _ c.loop-i.new c.loop-i.changed w.if-reach-new.true t))
-    | else-reach-new w ↦ (omega arith, omega (arith, ap length w.new-is), rw (w.new-is, w.changed-is) (turn_keep es a.old.now _ _ c.loop-i.new c.loop-i.changed w.if-reach-new.false t))
+      | then-reach-new w ↦ (omega arith, rw w.new-is (simp length-set (omega arith)), rw (w.new-is, w.changed-is) (turn_lower es a.old.now _ _ c.loop-i.new c.loop-i.changed w.if-reach-new.true t))
+      | else-reach-new w ↦ (omega arith, omega (arith, ap length w.new-is), rw (w.new-is, w.changed-is) (turn_keep es a.old.now _ _ c.loop-i.new c.loop-i.changed w.if-reach-new.false t))
     ]
 
 same_length : tie.Need-shape_of-new invariant-loop decreases-loop

@@ -54,8 +54,8 @@ loop-again : tie.Need-loop-h-preserved invariant-loop decreases-loop
 loop-again c =
     let l = c.loop-h in
     elim c.if-d-seen.branch [
-      then-d-seen w ↦ (omega arith, rw (w.table-is, w.seen-is, w.taken-is) (rounding_take _ _ _ l.invariant.1 w.if-d-seen.true w.lower.ensures))
-    | else-d-seen w ↦ (omega arith, rw (w.table-is, w.seen-is, w.taken-is) (rounding_skip _ _ _ l.invariant.1 w.if-d-seen.false))
+      | then-d-seen w ↦ (omega arith, rw (w.table-is, w.seen-is, w.taken-is) (rounding_take _ _ _ l.invariant.1 w.if-d-seen.true w.lower.ensures))
+      | else-d-seen w ↦ (omega arith, rw (w.table-is, w.seen-is, w.taken-is) (rounding_skip _ _ _ l.invariant.1 w.if-d-seen.false))
     ]
 
 same_length : tie.Need-shape_of-table invariant-loop decreases-loop

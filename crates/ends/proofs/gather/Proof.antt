@@ -63,8 +63,8 @@ loop-again c =
     let l = c.loop-q in
     let less = c.is_less.ensures in
     elim c.if-is_less.branch [
-      then-is_less w ↦ (omega arith, rw w.least-is (gathered_lower _ _ l.q l.invariant.1 (below c.before.before.before.before.before.before) (ltb-true _ _ (sym less ∙ w.if-is_less.true))))
-    | else-is_less w ↦ (omega arith, rw w.least-is (gathered_keep _ _ l.q l.invariant.1 (below c.before.before.before.before.before.before) (ltb-false _ _ (sym less ∙ w.if-is_less.false))))
+      | then-is_less w ↦ (omega arith, rw w.least-is (gathered_lower _ _ l.q l.invariant.1 (below c.before.before.before.before.before.before) (ltb-true _ _ (sym less ∙ w.if-is_less.true))))
+      | else-is_less w ↦ (omega arith, rw w.least-is (gathered_keep _ _ l.q l.invariant.1 (below c.before.before.before.before.before.before) (ltb-false _ _ (sym less ∙ w.if-is_less.false))))
     ]
 
 returns : tie.Need-returns invariant-loop decreases-loop

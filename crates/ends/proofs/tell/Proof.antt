@@ -77,8 +77,8 @@ loop-again : tie.Need-loop-v-preserved invariant-loop decreases-loop
 loop-again c =
     let d = at c.args.least.now c.loop-v.v in
     let told_is : c.if-d-lt-INF.weight ∷ c.if-d-lt-INF.hops ∷ [] ≡ told d = elim c.if-d-lt-INF.branch [
-      then-d-lt-INF w ↦ rw (w.weight-is, w.hops-is, lt-ltb d inf w.if-d-lt-INF.true)
-    | else-d-lt-INF w ↦ rw (w.weight-is, w.hops-is, le-ltb d inf w.if-d-lt-INF.false)
+      | then-d-lt-INF w ↦ rw (w.weight-is, w.hops-is, lt-ltb d inf w.if-d-lt-INF.true)
+      | else-d-lt-INF w ↦ rw (w.weight-is, w.hops-is, le-ltb d inf w.if-d-lt-INF.false)
     ] in
     (omega arith, telling_next _ _ c.loop-v.invariant.1 c.if-d-lt-INF.weight c.if-d-lt-INF.hops told_is (omega arith))
 

@@ -58,11 +58,10 @@ returns-5 c b g =
     (later (lt-ltb a.end b.count (omega (arith, g.vertices_are, c.if-vertices-end.false))) (here (valid-is c.before _ (not-true c.valid.result c.if-not-valid.true-raw) b g))))))
 
 find-requires : tie.Need-find-requires
-find-requires c κs =
-    (
-      c.requires,
-      (sym c.valid.ensures ∙ not-false c.valid.result c.if-not-valid.false-raw, (c.if-vertices-start.false, c.if-walk-lt-LONGEST.false)),
-    )
+find-requires c κs = (
+  c.requires,
+  (sym c.valid.ensures ∙ not-false c.valid.result c.if-not-valid.false-raw, (c.if-vertices-start.false, c.if-walk-lt-LONGEST.false)),
+)
 
 -- what the search found is what planning answers
 found : (c : tie.After-find)

@@ -47,8 +47,8 @@ loop-again : tie.Need-loop-q-preserved invariant-loop decreases-loop
 loop-again c =
     let a = c.args in
     elim c.if-place-vertex.branch [
-      then-place-vertex w ↦ (omega arith, w.table-is ∙ next-counted a.towards a.latest.now a.vertex a.table.now c.loop-q.q (omega arith) c.loop-q.invariant.1 (sym c.place.ensures ∙ w.if-place-vertex.true), ap length w.table-is ∙ length-set c.loop-q.table c.loop-q.q 0 ∙ c.loop-q.invariant.2)
-    | else-place-vertex w ↦ (omega arith, w.table-is ∙ next-other a.towards a.latest.now a.vertex a.table.now c.loop-q.q (omega arith) c.loop-q.invariant.1 (λ e. w.if-place-vertex.false (c.place.ensures ∙ e)), ap length w.table-is ∙ length-set c.loop-q.table c.loop-q.q inf ∙ c.loop-q.invariant.2)
+      | then-place-vertex w ↦ (omega arith, w.table-is ∙ next-counted a.towards a.latest.now a.vertex a.table.now c.loop-q.q (omega arith) c.loop-q.invariant.1 (sym c.place.ensures ∙ w.if-place-vertex.true), ap length w.table-is ∙ length-set c.loop-q.table c.loop-q.q 0 ∙ c.loop-q.invariant.2)
+      | else-place-vertex w ↦ (omega arith, w.table-is ∙ next-other a.towards a.latest.now a.vertex a.table.now c.loop-q.q (omega arith) c.loop-q.invariant.1 (λ e. w.if-place-vertex.false (c.place.ensures ∙ e)), ap length w.table-is ∙ length-set c.loop-q.table c.loop-q.q inf ∙ c.loop-q.invariant.2)
     ]
 
 same_length : tie.Need-shape_of-table invariant-loop decreases-loop

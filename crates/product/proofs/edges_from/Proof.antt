@@ -112,8 +112,8 @@ loop-less c = omega arith
 loop-again : tie.Need-loop-v-preserved invariant-loop decreases-loop
 loop-again c =
     elim c.if-is_open.branch [
-      then-is_open w ↦ (omega arith, rw (w.tails-is, w.heads-is, w.costs-is, w.k-is) (filling_open _ _ _ _ _ _ _ _ _ c.loop-v.invariant.1 (sym (opened c.before) ∙ w.if-is_open.true) (omega arith) (omega arith) (omega arith)))
-    | else-is_open w ↦ (omega arith, rw (w.tails-is, w.heads-is, w.costs-is, w.k-is) (filling_shut _ _ _ _ _ _ _ _ _ c.loop-v.invariant.1 (sym (opened c.before) ∙ w.if-is_open.false)))
+      | then-is_open w ↦ (omega arith, rw (w.tails-is, w.heads-is, w.costs-is, w.k-is) (filling_open _ _ _ _ _ _ _ _ _ c.loop-v.invariant.1 (sym (opened c.before) ∙ w.if-is_open.true) (omega arith) (omega arith) (omega arith)))
+      | else-is_open w ↦ (omega arith, rw (w.tails-is, w.heads-is, w.costs-is, w.k-is) (filling_shut _ _ _ _ _ _ _ _ _ c.loop-v.invariant.1 (sym (opened c.before) ∙ w.if-is_open.false)))
     ]
 
 same_length : tie.Need-shape_of-tails invariant-loop decreases-loop

@@ -131,9 +131,9 @@ loop-again : tie.Need-loop-v-preserved invariant-loop decreases-loop
 loop-again c =
     let a = c.args in
     elim c.if-is_open.branch [
-      then-is_open+then-table-r w ↦ (omega arith, rw w.word-is (choosing_in c.loop-v.invariant.1 (omega arith) (usable-yes a.weights.now a.steps.now a.blocked.now a.latest.now a.table.now a.q c.loop-v.v (sym (opened c.before) ∙ w.if-is_open.true) w.if-table-r.true)))
-    | then-is_open+else-table-r w ↦ (omega arith, rw w.word-is (choosing_out c.loop-v.invariant.1 (usable_dear a.weights.now a.steps.now a.blocked.now a.latest.now a.table.now a.q c.loop-v.v (sym (opened c.before) ∙ w.if-is_open.true) w.if-table-r.false)))
-    | else-is_open w ↦ (omega arith, rw w.word-is (choosing_out c.loop-v.invariant.1 (usable_shut a.weights.now a.steps.now a.blocked.now a.latest.now a.table.now a.q c.loop-v.v (sym (opened c.before) ∙ w.if-is_open.false))))
+      | then-is_open+then-table-r w ↦ (omega arith, rw w.word-is (choosing_in c.loop-v.invariant.1 (omega arith) (usable-yes a.weights.now a.steps.now a.blocked.now a.latest.now a.table.now a.q c.loop-v.v (sym (opened c.before) ∙ w.if-is_open.true) w.if-table-r.true)))
+      | then-is_open+else-table-r w ↦ (omega arith, rw w.word-is (choosing_out c.loop-v.invariant.1 (usable_dear a.weights.now a.steps.now a.blocked.now a.latest.now a.table.now a.q c.loop-v.v (sym (opened c.before) ∙ w.if-is_open.true) w.if-table-r.false)))
+      | else-is_open w ↦ (omega arith, rw w.word-is (choosing_out c.loop-v.invariant.1 (usable_shut a.weights.now a.steps.now a.blocked.now a.latest.now a.table.now a.q c.loop-v.v (sym (opened c.before) ∙ w.if-is_open.false))))
     ]
 
 returns : tie.Need-returns invariant-loop decreases-loop

@@ -17,11 +17,10 @@ same_length : tie.Need-shape_of-out
 same_length c = search rules
 
 returns : tie.Need-returns
-returns c =
-    (
-      wrote_then c.word-next.ensures c.decimal.ensures,
-      omega (arith, c.word-next.ensures.place, c.decimal.ensures.place, decimal-word c.args.n c.ranges.n.fits),
-    )
+returns c = (
+  wrote_then c.word-next.ensures c.decimal.ensures,
+  omega (arith, c.word-next.ensures.place, c.decimal.ensures.place, decimal-word c.args.n c.ranges.n.fits),
+)
 
 pub named_spec : {M : Type 1} → statement M
 named_spec = tie.close (tie.spec

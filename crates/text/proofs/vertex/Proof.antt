@@ -24,11 +24,10 @@ same_length c =
     c.decimal.auto.out ∙ length-set a.out.now a.at 32
 
 returns : tie.Need-returns
-returns c =
-    (
-      wrote_then (wrote-byte 32 c.args.at c.args.out.now (omega (arith, c.requires))) c.decimal.ensures,
-      omega (arith, c.decimal.ensures.place, decimal-byte c.args.v c.ranges.v.fits),
-    )
+returns c = (
+  wrote_then (wrote-byte 32 c.args.at c.args.out.now (omega (arith, c.requires))) c.decimal.ensures,
+  omega (arith, c.decimal.ensures.place, decimal-byte c.args.v c.ranges.v.fits),
+)
 
 pub vertex_spec : {M : Type 1} → statement M
 vertex_spec = tie.close (tie.spec

@@ -51,8 +51,8 @@ ends-preserved c =
     let none-named =
     sym c.loop-n.invariant.3
     ∙ elim c.loop-n-test.branch [
-      then-loop-n-test+else-n-end w ↦ lengths_past known walk c.ends.end c.loop-n.n w.if-n-end.false
-    | else-loop-n-test w ↦ lengths_done known walk c.ends.end c.loop-n.n w.loop-n-test.false
+      | then-loop-n-test+else-n-end w ↦ lengths_past known walk c.ends.end c.loop-n.n w.if-n-end.false
+      | else-loop-n-test w ↦ lengths_done known walk c.ends.end c.loop-n.n w.loop-n-test.false
     ] in
     (omega arith, omega arith, c.loop-n.invariant.2, sym (ends-later known walk c.ends.end within none-named) ∙ c.ends.invariant.3)
 

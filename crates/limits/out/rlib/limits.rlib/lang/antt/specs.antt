@@ -1,2 +1,0 @@
--- Meaning: the limits.
-pub mod Limits
