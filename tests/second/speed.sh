@@ -4,10 +4,10 @@
 # callgrind). Prints the ratio for each input; then that of a board, which gives
 # every end from one start, to one plan.
 #
-#   ./speed.sh                      takes ../../target/bin/plan
+#   ./speed.sh                      takes ../../crates/plan/out/plan
 #   ./speed.sh COMMAND WORDS...     counts the instructions of that command
-#   STREAM=PROGRAM ./speed.sh       times that program (../../target/bin/frames otherwise)
-#   BOARD=PROGRAM ./speed.sh        counts that program's boards (../../target/bin/board otherwise)
+#   STREAM=PROGRAM ./speed.sh       times that program (../../crates/frames/out/frames otherwise)
+#   BOARD=PROGRAM ./speed.sh        counts that program's boards (../../crates/board/out/board otherwise)
 #   ROUNDS=9 ./speed.sh             runs each program more often (5 times otherwise)
 #   SEED=7 ./speed.sh               other random inputs (the seed is 1 otherwise)
 set -eu
@@ -15,8 +15,8 @@ set -eu
 here=$(cd "$(dirname "$0")" && pwd)
 seed=${SEED:-1}
 rounds=${ROUNDS:-5}
-stream=${STREAM:-$here/../../target/bin/frames}
-board=${BOARD:-$here/../../target/bin/board}
+stream=${STREAM:-$here/../../crates/frames/out/frames}
+board=${BOARD:-$here/../../crates/board/out/board}
 second=$here/target/release/second
 
 # Each input with the number of plans in its stream.
@@ -28,7 +28,7 @@ boards="nothing typical largest chain winding"
 most_plans=1.3
 
 if [ $# -eq 0 ]; then
-    set -- "$here/../../target/bin/plan"
+    set -- "$here/../../crates/plan/out/plan"
 fi
 
 install_valgrind() {
