@@ -1,6 +1,6 @@
--- The lines, read off a table of ends: they are those of the best walks.
+-- The laws of what specs/Lines.antt defines.
 use Prim.Native.Nat.{ℕ, zero, suc, ◌+◌, ◌*◌, ◌<◌}
-use Rattle.std.specs.Prelude.{◌≡◌, Bool, true, false, cond, List, [], ◌∷◌, ◌++◌, eqb, get_or}
+use Rattle.std.specs.Prelude.{◌≡◌, Bool, true, false, cond, List, [], ◌++◌, eqb, get_or}
 use Rattle.std.proofs.Math.Path.{refl, ap₂}
 use Rattle.std.proofs.Common.{sym, ap, ◌∙◌, append_assoc, arith, add-one, eq-eqb, ne_eqb}
 use Rattle.std.proofs.Math.Option.{Option, none, some}

@@ -1,3 +1,3 @@
--- Meaning: Board (the text for an input). Laws: Lines (the lines, read off the table of ends), BoardLaws (the text by what is refused).
+-- Meaning: Board (the text for an input). Lines (the lines, read off the table of ends) serves the proofs. The laws are in proofs/.
 pub mod Board
 pub mod Lines

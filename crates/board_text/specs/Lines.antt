@@ -1,17 +1,12 @@
 -- The lines, read off a table of ends: they are those of the best walks.
 use Prim.Native.Nat.{ℕ, zero, suc, ◌+◌, ◌*◌, ◌<◌}
-use Rattle.std.specs.Prelude.{◌≡◌, Bool, true, false, cond, List, [], ◌∷◌, ◌++◌, eqb, get_or}
-use Rattle.std.proofs.Math.Path.{refl, ap₂}
-use Rattle.std.proofs.Common.{sym, ap, ◌∙◌, append_assoc, arith, add-one, eq-eqb, ne_eqb}
+use Rattle.std.specs.Prelude.{cond, List, [], ◌∷◌, ◌++◌, eqb, get_or}
 use Rattle.std.proofs.Math.Option.{Option, none, some}
-use Rattle.std.proofs.Math.ListN.{get_or-append}
 use Rattle.walks.specs.Graph.{Graph}
 use Rattle.walks.specs.Walk.{weight_of}
-use Rattle.states.specs.Chosen.{chosen}
-use Rattle.text.specs.Text.{decimal, cost_text, none_text}
-use Rattle.ends.specs.Ends.{no_end, entry_of, ends}
-use Rattle.ends.proofs.EndsLaws.{length-ends, ends-weight, ends-hops}
-use Rattle.board_text.specs.Board.{end_text, line_of, lines}
+use Rattle.text.specs.Text.{cost_text, none_text}
+use Rattle.ends.specs.Ends.{no_end}
+use Rattle.board_text.specs.Board.{line_of}
 
 abbrev pub blank : List ℕ
 blank = 32 ∷ []

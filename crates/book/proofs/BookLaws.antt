@@ -1,4 +1,4 @@
--- Laws of a book's meaning: every book that is read is well formed.
+-- The laws of what specs/BookLaws.antt defines.
 use Prim.Native.Nat.{ℕ, zero, suc, ◌+◌, ◌-◌, ◌≤◌, ◌<◌}
 use Rattle.std.specs.Prelude.{◌≡◌, Bool, true, false, cond, not, ◌&&◌, ◌||◌, eqb, leb, ltb, length}
 use Rattle.std.proofs.Math.Path.{refl, sym, ap, fun_ext}
@@ -14,12 +14,12 @@ use Rattle.book.specs.declared.Answer.TheVariants.{Read, Refused}
 use Rattle.book.specs.declared.Counts.{Counts}
 use Rattle.book.specs.declared.Kind.{Kind}
 use Rattle.book.specs.declared.Kind.TheVariants.{VertexCount, Path, Unknown}
-use Rattle.book.specs.Refusal.{Test, first_failure}
+use Rattle.book.specs.Refusal.{first_failure}
 use Rattle.book.proofs.RefusalLaws.{none→hold}
 use Rattle.lists.specs.Test.{and-true, or_false, either}
 use Rattle.walks.specs.Graph.{Arc, is_some, weight_in}
 use Rattle.book.specs.Book.{RuleSet, Book, blank, all_paths, counts, given, proper_arc, are_vertices, is_path, All, IsArc, IsPath, PairsOnce, WellFormed}
-use Rattle.book.specs.Reading.{Reading, accepted, refused, read_as, kind_at, length_at, end_at, count_at, arc_at, flags_at, path_at, follows, fits, proper, fresh, room, framing, content, extended, add_path, outcome, field, fields, and_then, reading}
+use Rattle.book.specs.Reading.{Reading, accepted, refused, read_as, kind_at, length_at, end_at, count_at, arc_at, flags_at, path_at, follows, fits, proper, fresh, room, extended, add_path, outcome, field, fields, and_then, reading}
 use Rattle.book.specs.BookLaws.{bare, paths-set, Passed, all_tests, IsBook}
 
 -- ---- lists

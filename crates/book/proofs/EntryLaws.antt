@@ -1,8 +1,8 @@
--- Laws of padded lists and of the entries of forbidden paths.
+-- The laws of what specs/EntryLaws.antt defines.
 use Rattle.std.specs.Prelude.{ℕ, suc, ◌*◌, ◌≤◌, ◌≡◌, refl, List, [], ◌∷◌, ◌++◌, length}
 use Rattle.std.proofs.Common.{sym, ap, ◌∙◌, append_assoc, append-nil, arith, length-append}
 use Rattle.std.proofs.lemmas.List.{length-replicate}
-use Rattle.limits.specs.Limits.{entry_size, longest_path}
+use Rattle.limits.specs.Limits.{entry_size}
 use Rattle.book.specs.Book.{RuleSet, All, all_paths}
 use Rattle.book.specs.Tables.{padded, entry, entries, owners_from}
 use Rattle.book.specs.EntryLaws.{Short}

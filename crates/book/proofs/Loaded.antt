@@ -1,4 +1,4 @@
--- A book that has been loaded: what the tables and the counts stand for.
+-- The laws of what specs/Loaded.antt defines.
 use Rattle.std.specs.Prelude.{ℕ, zero, suc, ◌+◌, ◌≤◌, ◌<◌, List, [], ◌∷◌, ◌++◌, ◌≡◌, refl, length, get_or, replicate}
 use Rattle.std.proofs.Common.{sym, ap, subst, ◌∙◌, arith}
 use Rattle.limits.specs.Limits.{most_vertices, most_sets, most_paths, area_size}

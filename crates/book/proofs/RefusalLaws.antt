@@ -1,11 +1,10 @@
--- Laws of the first test that fails.
+-- The laws of what specs/RefusalLaws.antt defines.
 use Rattle.std.specs.Prelude.{◌≡◌, refl, Bool, true, false, cond, List, [], ◌∷◌, ◌++◌}
 use Rattle.std.proofs.Common.{sym}
 use Rattle.std.proofs.Math.Option.{none, some, none-ne-some}
 use Rattle.lists.specs.Test.{and-true}
 use Rattle.book.specs.declared.Refusal.{Refusal}
 use Rattle.book.specs.Refusal.{Test, first_failure, all_hold}
-use Rattle.book.specs.Book.{All}
 use Rattle.book.specs.RefusalLaws.{Hold, Fails, here, later}
 
 -- The first that fails decides ...

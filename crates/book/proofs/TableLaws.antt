@@ -1,4 +1,4 @@
--- Laws of a book's arcs and of its table of weights.
+-- The laws of what specs/TableLaws.antt defines.
 use Prim.Native.Nat.{ℕ, ◌+◌, ◌*◌, ◌≤◌, ◌<◌}
 use Rattle.std.specs.Prelude.{◌≡◌, Bool, cond, ◌&&◌, length, set, replicate}
 use Rattle.std.proofs.Math.Path.{refl, sym, ap}

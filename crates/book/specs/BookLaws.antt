@@ -1,24 +1,11 @@
 -- Laws of a book's meaning: every book that is read is well formed.
-use Prim.Native.Nat.{ℕ, zero, suc, ◌+◌, ◌-◌, ◌≤◌, ◌<◌}
-use Rattle.std.specs.Prelude.{◌≡◌, Bool, true, false, cond, not, ◌&&◌, ◌||◌, eqb, leb, ltb, length}
-use Rattle.std.proofs.Math.Path.{refl, sym, ap, fun_ext}
-use Rattle.std.proofs.Common.{ap₂, subst, ◌∙◌, ⊎_elim, true≢false, zero-add, suc-add, arith, ltb-true, leb-true, le-leb, eqb-true, eq-eqb, ne_eqb, lt-ltb, le-ltb, length-append}
-use Rattle.std.proofs.lemmas.Bool.{false≢true, eqb-false, not-true}
-use mathlib.Core.List.Memᴰ
-use mathlib.Core.List.{List, [], ◌∷◌, ◌++◌, append_assoc, append-nil, Memᴰ}
-use Rattle.std.proofs.Math.Option.{Option, none, some}
-use Rattle.std.proofs.Math.Seq.{length-slice}
-use Rattle.limits.specs.Limits.{longest_path, most_paths, most_sets, most_vertices}
-use Rattle.book.specs.declared.Refusal.{Refusal}
-use Rattle.book.specs.declared.Answer.TheVariants.{Read, Refused}
-use Rattle.book.specs.declared.Counts.{Counts}
-use Rattle.book.specs.declared.Kind.{Kind}
-use Rattle.book.specs.declared.Kind.TheVariants.{VertexCount, Path, Unknown}
-use Rattle.book.specs.Refusal.{Test, first_failure}
-use Rattle.lists.specs.Test.{and-true, or_false, either}
-use Rattle.walks.specs.Graph.{Arc, is_some, weight_in}
-use Rattle.book.specs.Book.{RuleSet, Book, blank, all_paths, counts, given, proper_arc, are_vertices, is_path, All, IsArc, IsPath, PairsOnce, WellFormed}
-use Rattle.book.specs.Reading.{Reading, accepted, refused, read_as, kind_at, length_at, end_at, count_at, arc_at, flags_at, path_at, follows, fits, proper, fresh, room, framing, content, extended, add_path, outcome, field, fields, and_then, reading}
+use Prim.Native.Nat.{ℕ, ◌+◌, ◌-◌, ◌≤◌}
+use Rattle.std.specs.Prelude.{◌≡◌, true, length}
+use Rattle.std.proofs.Math.Path.{refl, ap}
+use mathlib.Core.List.{List, [], ◌∷◌, ◌++◌}
+use Rattle.book.specs.Refusal.{Test}
+use Rattle.book.specs.Book.{RuleSet, Book, all_paths, WellFormed}
+use Rattle.book.specs.Reading.{kind_at, length_at, end_at, follows, fits, proper, fresh, room, framing, content}
 
 -- ---- one more rule set, one more path
 module _ (f : ℕ) where

@@ -1,10 +1,7 @@
 -- Laws of the first test that fails.
-use Rattle.std.specs.Prelude.{◌≡◌, refl, Bool, true, false, cond, List, [], ◌∷◌, ◌++◌}
-use Rattle.std.proofs.Common.{sym}
-use Rattle.std.proofs.Math.Option.{none, some, none-ne-some}
-use Rattle.lists.specs.Test.{and-true}
+use Rattle.std.specs.Prelude.{◌≡◌, true, false, List, ◌∷◌}
 use Rattle.book.specs.declared.Refusal.{Refusal}
-use Rattle.book.specs.Refusal.{Test, first_failure, all_hold}
+use Rattle.book.specs.Refusal.{Test}
 use Rattle.book.specs.Book.{All}
 
 abbrev pub Hold : List Test → Type 0

@@ -1,5 +1,5 @@
--- 01, 'Who can cause a refusal', of each operation: what it asks of what it is handed, in 01's order, with the number of the refusal where that is
-use Rattle.std.specs.Prelude.{ℕ, ◌*◌, ◌≤◌, ◌<◌, ◌≡◌, refl, true, ◌&&◌, List, [], ◌∷◌, ◌++◌, ◌↔◌, ◌⊎◌, leb, length, drop}
+-- The laws of what specs/Asked.antt defines.
+use Rattle.std.specs.Prelude.{ℕ, ◌*◌, ◌≡◌, refl, true, ◌&&◌, List, ◌++◌, ◌↔◌, leb, length, drop}
 use Rattle.std.proofs.Common.{sym, ap, ap₂, subst, ◌∙◌, inl, inr, arith, eq-eqb, take-append-drop}
 use Rattle.std.proofs.Math.Option.{none, some, none-ne-some}
 use Rattle.std.proofs.lemmas.List.{length-map}
@@ -8,11 +8,11 @@ use Rattle.lists.specs.Test.{T→true, true→T}
 use Rattle.walks.specs.Graph.{Graph}
 use Rattle.walks.specs.Walk.{Walk, is_walk}
 use Rattle.walks.proofs.Walk.{is_walk→Walk, Walk→is_walk}
-use Rattle.walks.specs.Avoid.{Occurs, occurs}
+use Rattle.walks.specs.Avoid.{occurs}
 use Rattle.walks.proofs.Avoid.{occurs→Occurs, Occurs→occurs}
 use Rattle.book.specs.declared.Refusal.{Refusal}
 use Rattle.book.specs.Refusal.{Test, order, in_order, refusal_by}
-use Rattle.book.specs.Book.{Book, graph, IsPath, is_path}
+use Rattle.book.specs.Book.{Book, graph, is_path}
 use Rattle.book.proofs.BookLaws.{is_path→IsPath, IsPath→is_path}
 use Rattle.book.specs.Reading.{Reading, accepted, refused, refusal_of}
 use Rattle.rules.specs.Area.{written, blocks, spelled, valid}
@@ -28,7 +28,7 @@ use Rattle.trial_rules.specs.Trials.{Report, passed, failed, State, standing, is
 use Rattle.trial_rules.proofs.Tests.{once→Distinct, forbidden-set, →is_forbidden_set, is_valid→Valid}
 use Rattle.judging.specs.Judging.{state_of, report_tests}
 use Rattle.trials.specs.OperationLaws.{record_part}
-use Rattle.demands.specs.Conditions.{Condition, asks, AllHold, FirstFails, Decides}
+use Rattle.demands.specs.Conditions.{Condition, AllHold, FirstFails, Decides}
 use Rattle.demands.proofs.Conditions.{first-none, first_some, le_iff, lt_iff, eq_iff, and-iff}
 use Rattle.demands.specs.Asked.{bind_conditions, check_conditions, plan_conditions, reach_conditions, begin_conditions, Names, Room, report_conditions, Good, Cause, Judges, Conditions}
 

@@ -1,10 +1,10 @@
--- Conditions, each with the number of the refusal where it does not hold: all hold, or the first that does not decides. And tests that decide them.
-use Rattle.std.specs.Prelude.{ℕ, ◌≤◌, ◌<◌, ◌≡◌, refl, Bool, true, false, cond, ◌&&◌, List, [], ◌∷◌, ◌↔◌, ◌⊎◌, eqb, leb, ltb}
+-- The laws of what specs/Conditions.antt defines.
+use Rattle.std.specs.Prelude.{ℕ, ◌≤◌, ◌<◌, ◌≡◌, refl, Bool, true, false, cond, ◌&&◌, List, [], ◌∷◌, ◌↔◌, eqb, leb, ltb}
 use Rattle.std.proofs.Common.{sym, ap, ap₂, subst, ◌∙◌, true≢false, inl, inr, arith, leb-true, le-leb, ltb-true, lt-ltb, eqb-true, eq-eqb}
 use Rattle.std.proofs.Math.Option.{none, some, none-ne-some}
 use Rattle.lists.specs.Test.{and-true}
 use Rattle.book.specs.declared.Refusal.{Refusal}
-use Rattle.book.specs.Refusal.{Test, number_of, numbered, first_failure}
+use Rattle.book.specs.Refusal.{Test, numbered, first_failure}
 use Rattle.rules.proofs.Numbers.{refusal-again}
 use Rattle.demands.specs.Conditions.{Condition, AllHold, HasNumber, FirstFails, Decides}
 

@@ -1,11 +1,11 @@
--- 01, 'Who can cause a refusal', of the book's maker: 1 to 6 in words, field by field. 'The first bad field decides', and 'refusals 1 to 6 carry the
+-- The laws of what specs/Fields.antt defines.
 use Prim.Native.Nat.{ℕ, zero, suc, ◌+◌, ◌≤◌, ◌<◌}
-use Rattle.std.specs.Prelude.{◌≡◌, Bool, not, ◌&&◌, ◌||◌, ◌↔◌, ◌⊎◌, eqb, leb, length}
+use Rattle.std.specs.Prelude.{◌≡◌, Bool, not, ◌&&◌, ◌||◌, ◌↔◌, eqb, leb, length}
 use Rattle.std.proofs.Math.Path.{refl, ap}
 use Rattle.std.proofs.Common.{sym, ap₂, subst, ◌∙◌, true≢false, inl, inr, arith, lt-ltb, ltb-true, eqb-true, eq-eqb, ne_eqb}
 use Rattle.std.proofs.Math.Bool.{true, false, cond}
 use Rattle.std.proofs.lemmas.Bool.{false≢true, not-true}
-use mathlib.Core.List.{List, [], ◌∷◌, ◌++◌, Memᴰ}
+use mathlib.Core.List.{List, [], ◌∷◌, Memᴰ}
 use Rattle.std.proofs.Math.Option.{Option, none, some}
 use Rattle.std.proofs.Math.Dec.{ltb}
 use Rattle.limits.specs.Limits.{most_vertices, most_sets, most_paths, longest_path}
@@ -14,14 +14,14 @@ use Rattle.walks.specs.Graph.{Arc}
 use Rattle.book.specs.declared.Kind.{Kind}
 use Rattle.book.specs.declared.Kind.TheVariants.{VertexCount, Path, Unknown}
 use Rattle.book.specs.declared.Refusal.{Refusal}
-use Rattle.book.specs.Refusal.{Test, numbered, first_failure}
-use Rattle.book.specs.Book.{Book, RuleSet, All, IsArc, blank, all_paths, given, proper_arc}
+use Rattle.book.specs.Refusal.{numbered, first_failure}
+use Rattle.book.specs.Book.{Book, RuleSet, IsArc, blank, all_paths, given, proper_arc}
 use Rattle.book.proofs.BookLaws.{is-arc, arc-passes, vertices-below, below-vertices, given_cons, not-zero}
-use Rattle.book.specs.Reading.{accepted, refused, reading, and_then, outcome, fields, field, framing, content, extended, kind_at, length_at, end_at, count_at, arc_at, path_at, follows, fits, proper, fresh, room, add_arc, arc_tests}
+use Rattle.book.specs.Reading.{accepted, refused, reading, and_then, outcome, fields, field, extended, kind_at, length_at, end_at, count_at, arc_at, path_at, follows, fits, proper, fresh, room, add_arc, arc_tests}
 use Rattle.rules.proofs.Sets.{refuted}
 use Rattle.listed.specs.declared.Arc.{Arc as Item}
 use Rattle.listed.specs.Listing.{arc_of, counting, items, listing}
-use Rattle.demands.specs.Conditions.{Condition, asks, AllHold, HasNumber, FirstFails, Decides}
+use Rattle.demands.specs.Conditions.{HasNumber, Decides}
 use Rattle.demands.proofs.Conditions.{one-refusal, first-none, first_some, le_iff, lt_iff, eq_iff, and-iff, zero_one}
 use Rattle.demands.specs.Fields.{Follows, Fits, Proper, New, Fresh, HasRoom, field_conditions, BadField, bad_field, good-field, BadBook, count_conditions, item_conditions, BadItem, bad_item, good_item, with_count, BadList, field_tests}
 

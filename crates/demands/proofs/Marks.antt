@@ -1,4 +1,4 @@
--- Which sheets bind a batch, mark by mark, and what contains none of their runs; and that the definitions of binding decide this.
+-- The laws of what specs/Marks.antt defines.
 use Rattle.std.specs.Prelude.{ℕ, zero, suc, ◌/◌, ◌%◌, ◌^◌, ◌<◌, ◌≤◌, ◌≡◌, refl, true, ◌↔◌, leb}
 use Rattle.std.proofs.Common.{sym, ap, ◌∙◌, div-one, arith, leb-true, le-leb}
 use mathlib.Core.List.{List, Memᴰ}
@@ -6,7 +6,6 @@ use Rattle.std.proofs.Math.Logic.{by_cases}
 use Rattle.std.proofs.Math.Nat.{pow-zero, pow-succ', div-div-eq-div-mul, zero-div}
 use Rattle.std.proofs.Math.Decide.{ℕ_discrete}
 use Rattle.lists.specs.Test.{and-true}
-use Rattle.walks.specs.Avoid.{Occurs}
 use Rattle.book.specs.Book.{RuleSet, Book}
 use Rattle.rules.specs.Binding.{covers, applies, known}
 use Rattle.rules.proofs.Laws.{known→Applied, Applied→known}

@@ -1,35 +1,24 @@
 -- 01, 'Who can cause a refusal', of each operation: what it asks of what it is handed, in 01's order, with the number of the refusal where that is
 -- not so. And that the tests which its contract names decide just this.
-use Rattle.std.specs.Prelude.{ℕ, ◌*◌, ◌≤◌, ◌<◌, ◌≡◌, refl, true, ◌&&◌, List, [], ◌∷◌, ◌++◌, ◌↔◌, ◌⊎◌, leb, length, drop}
-use Rattle.std.proofs.Common.{sym, ap, ap₂, subst, ◌∙◌, inl, inr, arith, eq-eqb, take-append-drop}
-use Rattle.std.proofs.Math.Option.{none, some, none-ne-some}
-use Rattle.std.proofs.lemmas.List.{length-map}
+use Rattle.std.specs.Prelude.{ℕ, ◌*◌, ◌≤◌, ◌<◌, ◌≡◌, List, [], ◌∷◌, ◌↔◌, ◌⊎◌, length}
+use Rattle.std.proofs.Math.Option.{none, some}
 use Rattle.limits.specs.Limits.{area_size, longest, most_paths}
-use Rattle.lists.specs.Test.{T→true, true→T}
 use Rattle.walks.specs.Graph.{Graph}
-use Rattle.walks.specs.Walk.{Walk, is_walk}
-use Rattle.walks.proofs.Walk.{is_walk→Walk, Walk→is_walk}
-use Rattle.walks.specs.Avoid.{Occurs, occurs}
-use Rattle.walks.proofs.Avoid.{occurs→Occurs, Occurs→occurs}
+use Rattle.walks.specs.Walk.{Walk}
+use Rattle.walks.specs.Avoid.{Occurs}
 use Rattle.book.specs.declared.Refusal.{Refusal}
-use Rattle.book.specs.Refusal.{Test, order, in_order, refusal_by}
-use Rattle.book.specs.Book.{Book, graph, IsPath, is_path}
-use Rattle.book.proofs.BookLaws.{is_path→IsPath, IsPath→is_path}
+use Rattle.book.specs.Refusal.{Test}
+use Rattle.book.specs.Book.{Book, graph, IsPath}
 use Rattle.book.specs.Reading.{Reading, accepted, refused, refusal_of}
-use Rattle.rules.specs.Area.{written, blocks, spelled, valid}
-use Rattle.rules.proofs.AreaLaws.{length-blocks}
 use Rattle.rules.specs.ValidLaws.{Valid}
-use Rattle.rules.proofs.ValidLaws.{valid→Valid, written-valid}
 use Rattle.rules.specs.Operations.{bind_tests}
 use Rattle.walk_check.specs.Checking.{check_tests}
 use Rattle.planner.specs.Planning.{plan_tests}
 use Rattle.reach.specs.Reaching.{reach_tests}
 use Rattle.trial_record.specs.declared.Record.{Record}
-use Rattle.trial_rules.specs.Trials.{Report, passed, failed, State, standing, is_forbidden_set, is_record, is_valid, Valid as ValidState, is_named, has_room, begin_tests}
-use Rattle.trial_rules.proofs.Tests.{once→Distinct, forbidden-set, →is_forbidden_set, is_valid→Valid}
+use Rattle.trial_rules.specs.Trials.{Report, passed, failed, State, standing, Valid as ValidState, begin_tests}
 use Rattle.judging.specs.Judging.{state_of, report_tests}
-use Rattle.trials.specs.OperationLaws.{record_part}
-use Rattle.demands.specs.Conditions.{Condition, asks, AllHold, FirstFails, Decides}
+use Rattle.demands.specs.Conditions.{Condition, asks, AllHold, FirstFails}
 
 -- ---- the conditions
 -- 8: a runs area of 2,304 bytes or more.

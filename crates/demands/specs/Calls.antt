@@ -1,6 +1,6 @@
 -- The words of demand 3, over the answers of begin and the reports and over what they leave, as their contracts give both (`beginning`,
 -- `reporting`, `reports_on`): which reports are accepted, and when an oracle (01: a lab) is true to a set of forbidden paths (01: runs).
-use Rattle.std.specs.Prelude.{ℕ, ◌≤◌, ◌≡◌, true, ◌⊎◌, ◌↔◌, length, take}
+use Rattle.std.specs.Prelude.{ℕ, ◌≤◌, ◌≡◌, ◌⊎◌, ◌↔◌, length, take}
 use mathlib.Core.List.{List, [], ◌∷◌, Memᴰ}
 use Rattle.lists.specs.Distinct.{Distinct}
 use Rattle.walks.specs.Avoid.{Occurs, Avoids}

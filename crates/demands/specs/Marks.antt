@@ -1,15 +1,8 @@
 -- Which sheets bind a batch, mark by mark, and what contains none of their runs; and that the definitions of binding decide this.
-use Rattle.std.specs.Prelude.{ℕ, zero, suc, ◌/◌, ◌%◌, ◌^◌, ◌<◌, ◌≤◌, ◌≡◌, refl, true, ◌↔◌, leb}
-use Rattle.std.proofs.Common.{sym, ap, ◌∙◌, div-one, arith, leb-true, le-leb}
+use Rattle.std.specs.Prelude.{ℕ, ◌/◌, ◌%◌, ◌^◌, ◌<◌, ◌≡◌}
 use mathlib.Core.List.{List, Memᴰ}
-use Rattle.std.proofs.Math.Logic.{by_cases}
-use Rattle.std.proofs.Math.Nat.{pow-zero, pow-succ', div-div-eq-div-mul, zero-div}
-use Rattle.std.proofs.Math.Decide.{ℕ_discrete}
-use Rattle.lists.specs.Test.{and-true}
 use Rattle.walks.specs.Avoid.{Occurs}
 use Rattle.book.specs.Book.{RuleSet, Book}
-use Rattle.rules.specs.Binding.{covers, applies, known}
-use Rattle.rules.proofs.Laws.{known→Applied, Applied→known}
 
 -- Bit i of a word (01: marks are a 16-bit word; bit 0 summer, bit 1 export, the others the site's own).
 abbrev pub bit : ℕ → ℕ → ℕ

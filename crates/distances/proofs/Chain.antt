@@ -1,5 +1,5 @@
--- The edges into a state as a chain of indices, from the last to the first. An index is stored as one more than itself, and 0 ends a chain.
-use Rattle.std.specs.Prelude.{ℕ, zero, suc, ◌<◌, ◌≤◌, ◌≡◌, cond, List, ◌≢◌, length, eqb}
+-- The laws of what specs/Chain.antt defines.
+use Rattle.std.specs.Prelude.{ℕ, zero, suc, ◌<◌, ◌≤◌, ◌≡◌, cond, List, ◌≢◌}
 use Rattle.std.proofs.Common.{ap, arith, eq-eqb, ne_eqb}
 use Rattle.std.proofs.Math.Logic.{by_cases}
 use Rattle.std.proofs.Math.Decide.{ℕ_discrete}

@@ -1,5 +1,5 @@
--- The edges of three columns, by their index.
-use Rattle.std.specs.Prelude.{ℕ, zero, suc, ◌<◌, ◌≤◌, ◌≡◌, refl, List, [], ◌∷◌, length, get_or, drop}
+-- The laws of what specs/Columns.antt defines.
+use Rattle.std.specs.Prelude.{ℕ, zero, suc, ◌<◌, ◌≤◌, ◌≡◌, refl, List, [], ◌∷◌, length, drop}
 use mathlib.Core.List.Memᴰ
 use Rattle.std.proofs.Common.{⊎_elim, arith}
 use Rattle.distances.specs.Edge.{Edge, ◌∈◌, edges}

@@ -1,4 +1,4 @@
--- Distances from a state, read at the states that pass a test, the ends: the least of them is the state's distance to an end.
+-- The laws of what specs/Ends.antt defines.
 use Rattle.std.specs.Prelude.{ℕ, zero, suc, ◌<◌, ◌≤◌, min, ◌≡◌, refl, Bool, true, false, cond, List, [], ◌∷◌, ◌⊎◌, eqb}
 use Rattle.std.proofs.Common.{sym, ap, ◌∙◌, true≢false, inl, inr, ⊎_elim, arith, eq-eqb, eqb-true}
 use Rattle.std.proofs.Math.Logic.{by_cases}

@@ -1,10 +1,10 @@
--- A weight and a number of edges packed into one number, so that one comparison orders by weight, then by edges.
-use Rattle.std.specs.Prelude.{ℕ, suc, ◌+◌, ◌-◌, ◌*◌, ◌<◌, ◌≤◌, ◌≡◌, refl, List, [], ◌∷◌, ◌⊎◌, length}
+-- The laws of what specs/Pack.antt defines.
+use Rattle.std.specs.Prelude.{ℕ, suc, ◌-◌, ◌*◌, ◌<◌, ◌≤◌, ◌≡◌, refl, List, [], ◌∷◌, ◌⊎◌, length}
 use Rattle.std.proofs.Common.{inl, inr, ⊎_elim, arith, lit<}
 use Rattle.std.proofs.Math.Logic.{by_cases}
 use Rattle.std.proofs.Math.Decide.{dec_lt}
 use Rattle.limits.specs.Limits.{heaviest}
-use Rattle.distances.specs.Edge.{Edge, ◌∈◌, Path, total, cost, Within}
+use Rattle.distances.specs.Edge.{Edge, Path, total, cost}
 use Rattle.distances.specs.Table.{at, inf, Least, LeastWithin}
 use Rattle.distances.proofs.Shorten.{shorten, least-within}
 use Rattle.distances.specs.Pack.{hops_limit, pack, NoWorse, Weighted, Targets, BestWithin, Best}

@@ -1,4 +1,4 @@
--- A pass goes from the least within k edges to the least within one more, each attained by a path.
+-- The laws of what specs/Pass.antt defines.
 use Rattle.std.specs.Prelude.{ℕ, zero, suc, ◌+◌, ◌≤◌, min, ◌≡◌, refl, List, [], ◌∷◌, ◌≢◌, ◌⊎◌, length, set}
 use Rattle.std.proofs.Common.{◌∙◌, inl, inr, ⊎_elim, arith, length-set, get_or-set_other}
 use mathlib.Core.List.Memᴰ

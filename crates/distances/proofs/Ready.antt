@@ -1,10 +1,9 @@
--- What the code asks of the columns of the edges and of a table of distances.
+-- The laws of what specs/Ready.antt defines.
 use Rattle.std.specs.Prelude.{ℕ, ◌<◌, ◌≤◌, ◌≡◌, List, length}
 use Rattle.std.proofs.Common.{arith}
-use Rattle.distances.specs.Edge.{edges, Within}
 use Rattle.distances.specs.Columns.{edge_at}
 use Rattle.distances.proofs.Columns.{edge-at-mem}
-use Rattle.distances.specs.Table.{at, inf}
+use Rattle.distances.specs.Table.{at}
 use Rattle.distances.specs.Ready.{Ready}
 
 pub ready-head : {tails heads costs t : List ℕ} → Ready tails heads costs t → (i : ℕ) → i < length heads → at heads i < length t

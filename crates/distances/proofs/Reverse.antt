@@ -1,5 +1,5 @@
--- The graph with tails and heads swapped: its paths are the reversed paths, at the same cost. So the distances from a state are those to it in the swapped graph.
-use Rattle.std.specs.Prelude.{ℕ, ◌+◌, ◌≤◌, ◌≡◌, refl, List, [], ◌∷◌, ◌++◌, map}
+-- The laws of what specs/Reverse.antt defines.
+use Rattle.std.specs.Prelude.{ℕ, ◌+◌, ◌≡◌, refl, List, [], ◌∷◌, ◌++◌, map}
 use Rattle.std.proofs.Common.{sym, ap, ◌∙◌, subst, arith}
 use mathlib.Core.List.Memᴰ
 use Rattle.distances.specs.Edge.{Edge, ◌∈◌, Path, total, cost, Within}

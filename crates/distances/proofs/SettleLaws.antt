@@ -1,9 +1,9 @@
--- Distances worked out state by state: a state whose entry is below what its edges have seen is taken, and the edges into it are relaxed.
-use Rattle.std.specs.Prelude.{ℕ, zero, suc, ◌+◌, ◌<◌, ◌≤◌, ◌≡◌, refl, Bool, true, false, List, [], ◌∷◌, ◌⊎◌, length, set, T}
+-- The laws of what specs/Settle.antt defines.
+use Rattle.std.specs.Prelude.{ℕ, zero, suc, ◌<◌, ◌≤◌, ◌≡◌, refl, List, [], ◌∷◌, ◌⊎◌, length, set, T}
 use Rattle.std.proofs.Common.{sym, ◌∙◌, ⊎_elim, arith, length-set, get_or-set_other, ext_get_or}
 use Rattle.std.proofs.Math.Logic.{by_cases}
 use Rattle.std.proofs.Math.Decide.{ℕ_discrete}
-use Rattle.distances.specs.Edge.{Edge, ◌∈◌, cost, Within}
+use Rattle.distances.specs.Edge.{Edge, ◌∈◌, Within}
 use Rattle.distances.specs.Table.{at, Attained, passes, settled}
 use Rattle.distances.specs.Pass.{FromEdge}
 use Rattle.distances.proofs.PassLaws.{at_set, length-passes}

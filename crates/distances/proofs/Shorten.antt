@@ -1,11 +1,11 @@
--- Cutting the loops out of a path: what is left has fewer edges than there are states, and is no dearer by any measure.
+-- The laws of what specs/Shorten.antt defines.
 use Rattle.std.specs.Prelude.{ℕ, suc, ◌<◌, ◌≤◌, length}
 use mathlib.Core.List.Memᴰ
-use mathlib.Core.List.{List, [], ◌∷◌, map, Memᴰ}
+use mathlib.Core.List.{List, [], ◌∷◌, Memᴰ}
 use Rattle.std.proofs.Common.{⊎_elim, arith}
 use Rattle.std.proofs.Math.Logic.{by_cases}
 use Rattle.std.proofs.lemmas.List.{length-map}
-use Rattle.distances.specs.Edge.{Edge, Path, total, cost, Within}
+use Rattle.distances.specs.Edge.{Edge, Path, cost, Within}
 use Rattle.std.proofs.Math.Decide.{ℕ_discrete}
 use Rattle.lists.specs.Distinct.{Distinct, mem?}
 use Rattle.lists.specs.Pigeonhole.{pigeonhole}

@@ -1,8 +1,5 @@
 -- The edges into a state as a chain of indices, from the last to the first. An index is stored as one more than itself, and 0 ends a chain.
-use Rattle.std.specs.Prelude.{ℕ, zero, suc, ◌<◌, ◌≤◌, ◌≡◌, cond, List, ◌≢◌, length, eqb}
-use Rattle.std.proofs.Common.{ap, arith, eq-eqb, ne_eqb}
-use Rattle.std.proofs.Math.Logic.{by_cases}
-use Rattle.std.proofs.Math.Decide.{ℕ_discrete}
+use Rattle.std.specs.Prelude.{ℕ, zero, suc, ◌<◌, ◌≡◌, cond, List, length, eqb}
 use Rattle.distances.specs.Table.{at}
 
 -- one more than the last index below i at which the head is h, or 0

@@ -1,12 +1,6 @@
 -- Distances from a state, read at the states that pass a test, the ends: the least of them is the state's distance to an end.
-use Rattle.std.specs.Prelude.{ℕ, zero, suc, ◌<◌, ◌≤◌, min, ◌≡◌, refl, Bool, true, false, cond, List, [], ◌∷◌, ◌⊎◌, eqb}
-use Rattle.std.proofs.Common.{sym, ap, ◌∙◌, true≢false, inl, inr, ⊎_elim, arith, eq-eqb, eqb-true}
-use Rattle.std.proofs.Math.Logic.{by_cases}
-use Rattle.std.proofs.Math.Decide.{ℕ_discrete, dec_lt}
-use Rattle.lists.specs.Test.{either}
-use Rattle.distances.specs.Edge.{Edge, Path, Within}
-use Rattle.distances.specs.Table.{at, inf, Least}
-use Rattle.distances.specs.Reverse.{swapped, reversed}
+use Rattle.std.specs.Prelude.{ℕ, zero, suc, ◌<◌, ◌≤◌, min, ◌≡◌, Bool, true, cond, List, ◌⊎◌}
+use Rattle.distances.specs.Table.{at, inf}
 
 -- 0 at the states below m that pass the test, inf at the others
 abbrev pub Marks : (ℕ → Bool) → ℕ → List ℕ → Type 0

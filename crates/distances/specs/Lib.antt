@@ -1,5 +1,5 @@
 -- Meaning for this crate's contracts: Edge and Table (the graph, its paths, tables and passes), Pack (weight and edges in one number), Ready, Chain and Settle.
--- Laws: the others.
+-- The others define what laws speak of; the laws are in proofs/.
 pub mod Edge
 pub mod Table
 pub mod Pass

@@ -1,11 +1,8 @@
 -- A weight and a number of edges packed into one number, so that one comparison orders by weight, then by edges.
-use Rattle.std.specs.Prelude.{ℕ, suc, ◌+◌, ◌-◌, ◌*◌, ◌<◌, ◌≤◌, ◌≡◌, refl, List, [], ◌∷◌, ◌⊎◌, length}
-use Rattle.std.proofs.Common.{inl, inr, ⊎_elim, arith, lit<}
-use Rattle.std.proofs.Math.Logic.{by_cases}
-use Rattle.std.proofs.Math.Decide.{dec_lt}
+use Rattle.std.specs.Prelude.{ℕ, ◌+◌, ◌*◌, ◌<◌, ◌≤◌, ◌≡◌, List, ◌⊎◌, length}
 use Rattle.limits.specs.Limits.{heaviest}
 use Rattle.distances.specs.Edge.{Edge, ◌∈◌, Path, total, cost, Within}
-use Rattle.distances.specs.Table.{at, inf, Least, LeastWithin}
+use Rattle.distances.specs.Table.{at, inf}
 
 -- a packed path has fewer edges
 abbrev pub hops_limit : ℕ

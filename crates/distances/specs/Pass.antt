@@ -1,11 +1,7 @@
 -- A pass goes from the least within k edges to the least within one more, each attained by a path.
-use Rattle.std.specs.Prelude.{ℕ, zero, suc, ◌+◌, ◌≤◌, min, ◌≡◌, refl, List, [], ◌∷◌, ◌≢◌, ◌⊎◌, length, set}
-use Rattle.std.proofs.Common.{◌∙◌, inl, inr, ⊎_elim, arith, length-set, get_or-set_other}
-use mathlib.Core.List.Memᴰ
-use Rattle.std.proofs.Math.Logic.{by_cases}
-use Rattle.std.proofs.Math.Decide.{ℕ_discrete, dec_lt}
-use Rattle.distances.specs.Edge.{Edge, ◌∈◌, Path, cost}
-use Rattle.distances.specs.Table.{at, LeastWithin, relax, relaxes, pass, passes}
+use Rattle.std.specs.Prelude.{ℕ, ◌+◌, ◌≡◌, List}
+use Rattle.distances.specs.Edge.{Edge, ◌∈◌, cost}
+use Rattle.distances.specs.Table.{at}
 
 -- the entry v at q is that of an edge of es from q
 abbrev pub FromEdge : List ℕ → List Edge → ℕ → ℕ → Type 0

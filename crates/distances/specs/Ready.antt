@@ -1,8 +1,6 @@
 -- What the code asks of the columns of the edges and of a table of distances.
-use Rattle.std.specs.Prelude.{ℕ, ◌<◌, ◌≤◌, ◌≡◌, List, length}
-use Rattle.std.proofs.Common.{arith}
+use Rattle.std.specs.Prelude.{ℕ, ◌≤◌, ◌≡◌, List, length}
 use Rattle.distances.specs.Edge.{edges, Within}
-use Rattle.distances.specs.Columns.{edge_at}
 use Rattle.distances.specs.Table.{at, inf}
 
 -- the columns are equally long, every edge joins states of the table, and no entry is above inf

@@ -1,9 +1,7 @@
 -- The graph with tails and heads swapped: its paths are the reversed paths, at the same cost. So the distances from a state are those to it in the swapped graph.
-use Rattle.std.specs.Prelude.{ℕ, ◌+◌, ◌≤◌, ◌≡◌, refl, List, [], ◌∷◌, ◌++◌, map}
-use Rattle.std.proofs.Common.{sym, ap, ◌∙◌, subst, arith}
-use mathlib.Core.List.Memᴰ
-use Rattle.distances.specs.Edge.{Edge, ◌∈◌, Path, total, cost, Within}
-use Rattle.distances.specs.Table.{at, Least}
+use Rattle.std.specs.Prelude.{ℕ, ◌+◌, ◌≤◌, ◌≡◌, List, [], ◌∷◌, ◌++◌, map}
+use Rattle.distances.specs.Edge.{Edge, Path, cost}
+use Rattle.distances.specs.Table.{at}
 
 abbrev pub swap : Edge → Edge
 swap e = record { tail = e.head; head = e.tail; cost = e.cost }

@@ -1,11 +1,8 @@
 -- Distances worked out state by state: a state whose entry is below what its edges have seen is taken, and the edges into it are relaxed.
 -- Where no such state is left the table is settled, and is the one that the passes reach.
-use Rattle.std.specs.Prelude.{ℕ, zero, suc, ◌+◌, ◌<◌, ◌≤◌, ◌≡◌, refl, Bool, true, false, List, [], ◌∷◌, ◌⊎◌, length, set, T}
-use Rattle.std.proofs.Common.{sym, ◌∙◌, ⊎_elim, arith, length-set, get_or-set_other, ext_get_or}
-use Rattle.std.proofs.Math.Logic.{by_cases}
-use Rattle.std.proofs.Math.Decide.{ℕ_discrete}
-use Rattle.distances.specs.Edge.{Edge, ◌∈◌, cost, Within}
-use Rattle.distances.specs.Table.{at, Attained, passes, settled}
+use Rattle.std.specs.Prelude.{ℕ, ◌+◌, ◌<◌, ◌≤◌, ◌≡◌, Bool, true, false, List, [], ◌∷◌, ◌⊎◌, length}
+use Rattle.distances.specs.Edge.{Edge, ◌∈◌, cost}
+use Rattle.distances.specs.Table.{at, Attained}
 use Rattle.distances.specs.Pass.{FromEdge}
 
 -- the edges into h are relaxed: no entry is raised, those edges lower none of t', and a lowered entry is that of an edge

@@ -1,15 +1,8 @@
 -- Cutting the loops out of a path: what is left has fewer edges than there are states, and is no dearer by any measure.
-use Rattle.std.specs.Prelude.{ℕ, suc, ◌<◌, ◌≤◌, length}
-use mathlib.Core.List.Memᴰ
-use mathlib.Core.List.{List, [], ◌∷◌, map, Memᴰ}
-use Rattle.std.proofs.Common.{⊎_elim, arith}
-use Rattle.std.proofs.Math.Logic.{by_cases}
-use Rattle.std.proofs.lemmas.List.{length-map}
-use Rattle.distances.specs.Edge.{Edge, Path, total, cost, Within}
-use Rattle.std.proofs.Math.Decide.{ℕ_discrete}
-use Rattle.lists.specs.Distinct.{Distinct, mem?}
-use Rattle.lists.specs.Pigeonhole.{pigeonhole}
-use Rattle.distances.specs.Table.{at, Least, LeastWithin, passes}
+use Rattle.std.specs.Prelude.{ℕ, ◌≤◌}
+use mathlib.Core.List.{List, ◌∷◌, map}
+use Rattle.distances.specs.Edge.{Edge, Path, total}
+use Rattle.lists.specs.Distinct.{Distinct}
 
 -- the states of a path from q
 abbrev pub visits : ℕ → List Edge → List ℕ

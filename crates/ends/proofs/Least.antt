@@ -1,9 +1,7 @@
--- The table of ends as it is read off distances from the start: the entry of a vertex is the least over all states that stand at it.
-use Rattle.std.specs.Prelude.{cond, List, [], ◌∷◌, ◌++◌, ◌≡◌, refl, ℕ, zero, suc, ◌*◌, ◌/◌, ◌%◌, ◌<◌, ◌≤◌, eqb, ltb, length, get_or}
+-- The laws of what specs/Least.antt defines.
+use Rattle.std.specs.Prelude.{cond, [], ◌∷◌, ◌++◌, ◌≡◌, refl, ℕ, zero, suc, ◌*◌, ◌/◌, ◌%◌, ◌<◌, ◌≤◌, length}
 use Rattle.std.proofs.Common.{ap, ap₂, arith, lt-ltb, le-ltb, length-append}
-use Rattle.limits.specs.Limits.{most_vertices}
-use Rattle.distances.specs.Table.{at, inf}
-use Rattle.distances.specs.Ends.{least_over}
+use Rattle.distances.specs.Table.{inf}
 use Rattle.distances.specs.Pack.{hops_limit}
 use Rattle.ends.specs.Ends.{no_end}
 use Rattle.ends.specs.Least.{told, numbers}

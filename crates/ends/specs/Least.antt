@@ -1,6 +1,5 @@
 -- The table of ends as it is read off distances from the start: the entry of a vertex is the least over all states that stand at it.
-use Rattle.std.specs.Prelude.{cond, List, [], ◌∷◌, ◌++◌, ◌≡◌, refl, ℕ, zero, suc, ◌*◌, ◌/◌, ◌%◌, ◌<◌, ◌≤◌, eqb, ltb, length, get_or}
-use Rattle.std.proofs.Common.{ap, ap₂, arith, lt-ltb, le-ltb, length-append}
+use Rattle.std.specs.Prelude.{cond, List, [], ◌∷◌, ◌++◌, ◌≡◌, ℕ, zero, suc, ◌/◌, ◌%◌, ◌<◌, ◌≤◌, eqb, ltb, length, get_or}
 use Rattle.limits.specs.Limits.{most_vertices}
 use Rattle.distances.specs.Table.{at, inf}
 use Rattle.distances.specs.Ends.{least_over}

@@ -1,3 +1,3 @@
--- Meaning for this crate's contracts: Ends (the table) and Least (how it is read off distances). Laws: EndsLaws, Filled.
+-- Meaning for this crate's contracts: Ends (the table) and Least (how it is read off distances). The laws are in proofs/.
 pub mod Ends
 pub mod Least

@@ -1,5 +1,5 @@
--- What the program `board` prints for book A under marks 3 (02, order 1), and for an input that is cut off.
-use Rattle.std.specs.Prelude.{ℕ, ◌≡◌, refl, List, [], ◌∷◌}
+-- The laws of what specs/Board.antt defines.
+use Rattle.std.specs.Prelude.{◌≡◌, refl, [], ◌∷◌}
 use Rattle.std.proofs.Common.{ap, ◌∙◌, arith}
 use Rattle.text.specs.Text.{digits}
 use Rattle.board_text.specs.Board.{board_text}

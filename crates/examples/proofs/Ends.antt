@@ -1,10 +1,9 @@
--- The sums of 02, order 1: the table of ends of book A under marks 3, from the bytes of the book and for all lent areas that are long enough.
+-- The laws of what specs/Ends.antt defines.
 use Rattle.std.specs.Prelude.{ℕ, ◌*◌, ◌<◌, ◌≤◌, ◌≡◌, refl, true, ltb, length, drop}
 use Rattle.std.proofs.Common.{sym, ap, ap₂, subst, ◌∙◌, arith, le-leb}
 use mathlib.Core.List.{List, [], ◌∷◌, ◌++◌, Memᴰ}
 use Rattle.std.proofs.Math.Option.{none}
 use Rattle.walks.specs.Best.{None}
-use Rattle.states.specs.Chosen.{chosen}
 use Rattle.book.specs.Refusal.{refusal_by}
 use Rattle.book.proofs.RefusalLaws.{hold→none}
 use Rattle.book.specs.Book.{Book, IsPath, graph}
@@ -13,12 +12,11 @@ use Rattle.book.specs.Reading.{accepted, reading, book_in}
 use Rattle.rules.specs.Binding.{covers, applied, known}
 use Rattle.rules.proofs.BindingLaws.{known-few, known-paths}
 use Rattle.rules.specs.Area.{valid}
-use Rattle.rules.specs.Operations.{Binding, binding, area_after}
+use Rattle.rules.specs.Operations.{binding, area_after}
 use Rattle.rules.proofs.Laws.{bind-accepted}
 use Rattle.limits.specs.Limits.{area_size, most_paths, longest_path}
-use Rattle.ends.specs.Ends.{no_end, entry_of, ends}
+use Rattle.ends.specs.Ends.{no_end, ends}
 use Rattle.ends.proofs.EndsLaws.{entry-best, entry-none, entry-start}
-use Rattle.reach.specs.declared.Reached.TheVariants.{Filled}
 use Rattle.reach.specs.Reaching.{reach_tests, answer_by, table_by, reached, table_after}
 use Rattle.examples.specs.Books.{bytes_a, book_a, book-A}
 use Rattle.examples.specs.Walks.{Plan, marks_3, best-to-1, best-to-2, none-to-0, none-to-1, none-to-2}

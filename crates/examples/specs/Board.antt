@@ -1,12 +1,5 @@
 -- What the program `board` prints for book A under marks 3 (02, order 1), and for an input that is cut off.
-use Rattle.std.specs.Prelude.{ℕ, ◌≡◌, refl, List, [], ◌∷◌}
-use Rattle.std.proofs.Common.{ap, ◌∙◌, arith}
-use Rattle.text.specs.Text.{digits}
-use Rattle.board_text.specs.Board.{board_text}
-use Rattle.board_text.specs.Lines.{table_lines}
-use Rattle.board_text.proofs.BoardLaws.{board_text_lem}
-use Rattle.examples.specs.Books.{bytes_a, book_a, book-A}
-use Rattle.examples.specs.Printed.{refused-at-0}
+use Rattle.std.specs.Prelude.{ℕ, List, [], ◌∷◌}
 
 -- Start 0: `0 LITRES 0 CHANGES 0`, `1 LITRES 100 CHANGES 1`, `2 LITRES 200 CHANGES 2`, `3 LITRES 450 CHANGES 5`
 abbrev pub lines-0 : List ℕ

@@ -1,28 +1,16 @@
 -- The sums of 02, order 1: the table of ends of book A under marks 3, from the bytes of the book and for all lent areas that are long enough.
-use Rattle.std.specs.Prelude.{ℕ, ◌*◌, ◌<◌, ◌≤◌, ◌≡◌, refl, true, ltb, length, drop}
-use Rattle.std.proofs.Common.{sym, ap, ap₂, subst, ◌∙◌, arith, le-leb}
-use mathlib.Core.List.{List, [], ◌∷◌, ◌++◌, Memᴰ}
-use Rattle.std.proofs.Math.Option.{none}
-use Rattle.walks.specs.Best.{None}
+use Rattle.std.specs.Prelude.{ℕ, ◌*◌, ◌≤◌, ◌≡◌, length, drop}
+use mathlib.Core.List.{List, [], ◌∷◌, ◌++◌}
 use Rattle.states.specs.Chosen.{chosen}
-use Rattle.book.specs.Refusal.{refusal_by}
-use Rattle.book.proofs.RefusalLaws.{hold→none}
-use Rattle.book.specs.Book.{Book, IsPath, graph}
-use Rattle.book.proofs.BookLaws.{all-member}
-use Rattle.book.specs.Reading.{accepted, reading, book_in}
-use Rattle.rules.specs.Binding.{covers, applied, known}
-use Rattle.rules.proofs.BindingLaws.{known-few, known-paths}
-use Rattle.rules.specs.Area.{valid}
+use Rattle.book.specs.Reading.{reading}
+use Rattle.rules.specs.Binding.{known}
 use Rattle.rules.specs.Operations.{Binding, binding, area_after}
-use Rattle.rules.proofs.Laws.{bind-accepted}
-use Rattle.limits.specs.Limits.{area_size, most_paths, longest_path}
-use Rattle.ends.specs.Ends.{no_end, entry_of, ends}
-use Rattle.ends.proofs.EndsLaws.{entry-best, entry-none, entry-start}
+use Rattle.limits.specs.Limits.{area_size}
+use Rattle.ends.specs.Ends.{no_end, entry_of}
 use Rattle.reach.specs.declared.Reached.TheVariants.{Filled}
-use Rattle.reach.specs.Reaching.{reach_tests, answer_by, table_by, reached, table_after}
-use Rattle.examples.specs.Books.{bytes_a, book_a, book-A}
-use Rattle.examples.specs.Walks.{Plan, marks_3, best-to-1, best-to-2, none-to-0, none-to-1, none-to-2}
-use Rattle.examples.specs.Sums.{graph_a, binds, well-A}
+use Rattle.reach.specs.Reaching.{reached, table_after}
+use Rattle.examples.specs.Books.{bytes_a, book_a}
+use Rattle.examples.specs.Sums.{graph_a}
 
 -- The book binds, and under the known runs F the call from `start` fills the table for n vertices with these numbers; those after them are as lent.
 abbrev pub Fills : List ℕ → ℕ → ℕ → ℕ → List ℕ → Type 0

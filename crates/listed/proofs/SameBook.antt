@@ -1,7 +1,7 @@
--- The plan from a list is the plan of the book with the same arcs, in any order (01: the plan is that of the book with the same changeovers).
+-- The laws of what specs/SameBook.antt defines.
 use Rattle.std.specs.Prelude.{ℕ, suc, ◌≡◌, true, false, cond, not, ◌&&◌, leb}
 use Rattle.std.proofs.Common.{sym, ap, ap₂, subst, ◌∙◌, le-leb}
-use mathlib.Core.List.{List, [], ◌∷◌, ◌++◌, map, append_assoc, append-nil, Permᴰ}
+use mathlib.Core.List.{List, [], ◌∷◌, ◌++◌, append_assoc, append-nil, Permᴰ}
 use Rattle.std.proofs.Math.Option.{none, some}
 use Rattle.limits.specs.Limits.{most_vertices}
 use Rattle.walks.specs.Graph.{Arc}

@@ -1,4 +1,4 @@
--- What stands for a reading, from the count on, item by item, to the whole list.
+-- The laws of what specs/StandingLaws.antt defines.
 use Rattle.std.specs.Prelude.{ℕ, suc, ◌+◌, ◌≤◌, ◌<◌, ◌≡◌, refl, Bool, true, false, cond, not, ◌&&◌, List, [], ◌∷◌, leb, length, get_or, drop, replicate}
 use Rattle.std.proofs.Common.{sym, ap, ap₂, subst, ◌∙◌, add-suc, add-zero, arith, leb-true, le-leb, ltb-true, ltb-false, drop_of_length-le, drop-cons}
 use Rattle.std.proofs.lemmas.Bool.{false≢true, lt-leb}

@@ -1,5 +1,5 @@
--- Meaning: Listing (a list of arcs as a book). Laws: Standing and StandingLaws, which serve the proofs of the code that reads it; Reordered and SameBook (the plan
--- is that of the book with the same arcs), LongList (a list is decided by its first items).
+-- Meaning: Listing (a list of arcs as a book). Standing and StandingLaws serve the proofs of the code that reads it, Reordered and SameBook
+-- the law that the plan is that of the book with the same arcs. The laws are in proofs/, but for the law of Reordered.
 pub mod Listing
 pub mod Standing
 pub mod StandingLaws

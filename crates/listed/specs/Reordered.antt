@@ -2,10 +2,10 @@
 use Rattle.std.specs.Prelude.{ℕ, ◌≡◌, refl, Bool, true, false, cond, ◌&&◌, ◌||◌, eqb}
 use Rattle.std.proofs.Common.{sym, ap, ap₂, subst, ◌∙◌, true≢false, eqb-true, eq-eqb}
 use Rattle.std.proofs.Math.Path.{fun_ext}
-use mathlib.Core.List.{List, [], ◌∷◌, Permᴰ}
+use mathlib.Core.List.{List, ◌∷◌, Permᴰ}
 use Rattle.std.proofs.Math.Option.{Option, some}
 use Rattle.lists.specs.Test.{and-true, or_false}
-use Rattle.walks.specs.Graph.{Arc, Graph, is_some, weight_in, from_arcs}
+use Rattle.walks.specs.Graph.{Arc, is_some, weight_in, from_arcs}
 use Rattle.book.specs.Book.{All, PairsOnce, given}
 use Rattle.book.proofs.BookLaws.{given_cons, other_pair}
 

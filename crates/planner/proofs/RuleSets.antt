@@ -1,11 +1,10 @@
--- Two books whose rule sets leave the same walks have equal plans, for every batch, start and end; so do two that differ in the order of their rule sets.
+-- The laws of what specs/RuleSets.antt defines.
 use Rattle.std.specs.Prelude.{ℕ, ◌≡◌, refl, leb, ltb, length, drop}
 use Rattle.std.proofs.Common.{sym, ap, ap₂, subst, ◌∙◌, le-leb}
-use mathlib.Core.List.{List, [], ◌∷◌, ◌++◌, Permᴰ}
+use mathlib.Core.List.{List, [], ◌∷◌, ◌++◌}
 use Rattle.std.proofs.Math.Option.{Option, none, some}
 use Rattle.walks.specs.Graph.{Graph, Arc, from_arcs}
 use Rattle.walks.specs.Walk.{weight_of, hops}
-use Rattle.walks.proofs.Avoid.{Avoids-mono}
 use Rattle.walks.specs.Best.{NoStricter}
 use Rattle.walks.proofs.Best.{Best-unique, Best-not-None, Best-same}
 use Rattle.book.specs.declared.Refusal.{Refusal}
@@ -17,7 +16,7 @@ use Rattle.limits.specs.Limits.{area_size, longest}
 use Rattle.rules.specs.Binding.{known}
 use Rattle.rules.specs.Operations.{Binding, binding, area_after}
 use Rattle.rules.specs.Laws.{Filled}
-use Rattle.rules.proofs.Laws.{same_set, bind-accepted}
+use Rattle.rules.proofs.Laws.{bind-accepted}
 use Rattle.planner.specs.declared.Outcome.{Outcome}
 use Rattle.planner.specs.declared.Outcome.TheVariants.{Walk, Nothing, Refused}
 use Rattle.planner.specs.Planning.{plan_tests, Planned, PlanningOf, Planning}

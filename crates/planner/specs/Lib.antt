@@ -1,3 +1,3 @@
--- Meaning: Planning. Laws: RuleSets (the order of the rule sets does not matter), ValidArea (what a valid runs area spells).
+-- Meaning: Planning. RuleSets (when rule sets differ in their order alone) serves statements. The laws are in proofs/.
 pub mod Planning
 pub mod RuleSets

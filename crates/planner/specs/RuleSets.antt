@@ -1,26 +1,11 @@
 -- Two books whose rule sets leave the same walks have equal plans, for every batch, start and end; so do two that differ in the order of their rule sets.
-use Rattle.std.specs.Prelude.{ℕ, ◌≡◌, refl, leb, ltb, length, drop}
-use Rattle.std.proofs.Common.{sym, ap, ap₂, subst, ◌∙◌, le-leb}
-use mathlib.Core.List.{List, [], ◌∷◌, ◌++◌, Permᴰ}
-use Rattle.std.proofs.Math.Option.{Option, none, some}
-use Rattle.walks.specs.Graph.{Graph, Arc, from_arcs}
-use Rattle.walks.specs.Walk.{weight_of, hops}
+use Rattle.std.specs.Prelude.{ℕ, ◌≡◌}
+use mathlib.Core.List.{Permᴰ}
 use Rattle.walks.proofs.Avoid.{Avoids-mono}
 use Rattle.walks.specs.Best.{NoStricter}
-use Rattle.walks.proofs.Best.{Best-unique, Best-not-None, Best-same}
-use Rattle.book.specs.declared.Refusal.{Refusal}
-use Rattle.book.specs.Refusal.{Test, test, refusal_by}
 use Rattle.book.specs.Book.{Book, graph}
-use Rattle.book.specs.Reading.{accepted, reading, book_in}
-use Rattle.rules.specs.Area.{spelled}
-use Rattle.limits.specs.Limits.{area_size, longest}
 use Rattle.rules.specs.Binding.{known}
-use Rattle.rules.specs.Operations.{Binding, binding, area_after}
-use Rattle.rules.specs.Laws.{Filled}
-use Rattle.rules.proofs.Laws.{same_set, bind-accepted}
-use Rattle.planner.specs.declared.Outcome.{Outcome}
-use Rattle.planner.specs.declared.Outcome.TheVariants.{Walk, Nothing, Refused}
-use Rattle.planner.specs.Planning.{plan_tests, Planned, PlanningOf, Planning}
+use Rattle.rules.proofs.Laws.{same_set}
 
 pub record SameGraph (b c : Book) : Type 0 where
   pub counts : c.count ≡ b.count

@@ -1,5 +1,5 @@
--- What the code asks of a table of distances: that the one which the passes end in meets it.
-use Rattle.std.specs.Prelude.{true, List, ◌≢◌, ◌≡◌, ℕ, ◌%◌, ◌<◌, ◌≤◌, length}
+-- The laws of what specs/Guiding.antt defines.
+use Rattle.std.specs.Prelude.{true, List, ◌≢◌, ◌≡◌, ℕ, ◌<◌, length}
 use Rattle.std.proofs.Common.{⊎_elim, ap, ◌∙◌, arith}
 use Rattle.std.proofs.Math.Logic.{by_cases}
 use Rattle.std.proofs.Math.Decide.{dec_lt}
@@ -9,13 +9,11 @@ use Rattle.distances.specs.Table.{at, inf, passes}
 use Rattle.distances.proofs.PassLaws.{length-passes}
 use Rattle.automaton.specs.Built.{Built}
 use Rattle.walks.specs.Weights.{Weights}
-use Rattle.distances.specs.Pack.{hops_limit}
-use Rattle.product.specs.Product.{step_to, state_edges}
+use Rattle.product.specs.Product.{state_edges}
 use Rattle.product.specs.Base.{targets, length-base, base-is}
 use Rattle.routes.specs.Distance.{at_most}
-use Rattle.routes.specs.Route.{Guided}
 use Rattle.routes.proofs.Route.{guided}
-use Rattle.product.specs.Fits.{Row, Fits, fits}
+use Rattle.product.specs.Fits.{fits}
 use Rattle.routes.specs.Guiding.{Node, Guiding}
 
 pub node : {n : ℕ} {weights steps blockeds latests d : List ℕ} → Guiding n weights steps blockeds latests d → (q : ℕ) → q < length d → Node n weights steps blockeds latests d q

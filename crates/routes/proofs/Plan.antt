@@ -1,22 +1,19 @@
--- What a plan is, and that the search over the tables gives it.
-use Rattle.std.specs.Prelude.{Bool, true, List, [], ◌∷◌, ◌++◌, ◌≡◌, refl, ℕ, ◌-◌, ◌/◌, ◌%◌, ◌<◌, ◌≤◌, length, drop}
+-- The laws of what specs/Plan.antt defines.
+use Rattle.std.specs.Prelude.{true, List, [], ◌∷◌, ◌++◌, ◌≡◌, refl, ℕ, ◌-◌, ◌/◌, ◌%◌, ◌<◌, ◌≤◌, length, drop}
 use Rattle.std.proofs.Common.{sym, ap, subst, ◌∙◌, arith}
 use Rattle.walks.specs.Graph.{Graph}
-use Rattle.walks.specs.Walk.{weight_of, hops}
+use Rattle.walks.specs.Walk.{weight_of}
 use Rattle.walks.specs.Avoid.{Avoids}
-use Rattle.walks.specs.Best.{Best, None}
+use Rattle.walks.specs.Best.{Best}
 use Rattle.distances.specs.Table.{at, inf, passes}
-use Rattle.automaton.specs.Area.{Spells, Bounded, Given}
 use Rattle.states.specs.Count.{most_states}
 use Rattle.states.proofs.Count.{states-longest}
 use Rattle.automaton.specs.Built.{Built}
 use Rattle.distances.specs.Pack.{hops_limit}
 use Rattle.limits.specs.Limits.{longest}
-use Rattle.routes.specs.declared.Found.{Found}
 use Rattle.routes.specs.declared.Found.TheVariants.{Walk, Nothing}
-use Rattle.walks.specs.Weights.{Weights}
 use Rattle.product.specs.Product.{state_edges}
-use Rattle.product.specs.Base.{base, targets, directed}
+use Rattle.product.specs.Base.{targets}
 use Rattle.routes.specs.Distance.{bounded}
 use Rattle.routes.specs.Route.{walk_from}
 use Rattle.routes.proofs.Route.{walk-best, walk-weight, start_none}

@@ -1,12 +1,11 @@
--- The route of least cost over the tables: from each state over the lowest vertex that loses nothing. It is the best walk.
-use Rattle.std.specs.Prelude.{Bool, true, ◌&&◌, List, [], ◌∷◌, ◌≡◌, eqb, length}
+-- The laws of what specs/Route.antt defines.
+use Rattle.std.specs.Prelude.{true, List, [], ◌∷◌, ◌≡◌, eqb}
 use Rattle.std.proofs.Math.Bool.{true≢false}
 use Rattle.std.proofs.Math.Logic.{⊎_elim}
 use Rattle.std.proofs.Math.Option.{Option, some}
 use Rattle.std.proofs.Math.Path.{refl, ap}
 use Rattle.std.proofs.Common.{sym, ◌∙◌, arith, eq-eqb, eqb-true}
 use Prim.Native.Nat.{ℕ, zero, suc, ◌+◌, ◌/◌, ◌%◌, ◌<◌, ◌≤◌}
-use Rattle.std.specs.Int.Count.{count_trailing_zeros}
 use Rattle.lists.specs.Test.{and-true}
 use Rattle.walks.specs.Graph.{Graph, arc_weight}
 use Rattle.walks.specs.Walk.{weight_of, hops}
@@ -20,7 +19,7 @@ use Rattle.states.specs.Cost.{Cost, via, cost_of}
 use Rattle.states.specs.Greedy.{Usable, Greedy}
 use Rattle.states.proofs.Greedy.{greedy_cost, greedy_best, settled-none}
 use Rattle.automaton.specs.Built.{Built}
-use Rattle.routes.specs.Word.{word, Lowest}
+use Rattle.routes.specs.Word.{Lowest}
 use Rattle.routes.proofs.Word.{word-lowest}
 use Rattle.walks.specs.Weights.{Weights}
 use Rattle.product.specs.Product.{arc_at, step_to, is_open, state_edges}

@@ -1,4 +1,4 @@
--- Sets of vertices as words: bit v is set exactly if v is in the set. The trailing zeros of a word give the lowest vertex of its set.
+-- The laws of what specs/Word.antt defines.
 use Rattle.std.specs.Prelude.{Bool, true, false, cond, ◌⊎◌, ◌≡◌, refl, ℕ, zero, suc, ◌+◌, ◌*◌, ◌/◌, ◌%◌, ◌^◌, ◌<◌, ◌≤◌}
 use Rattle.std.proofs.Common.{inl, inr, ⊎_elim, ap, ◌∙◌, pow-suc, arith}
 use Rattle.std.proofs.Math.Logic.{by_cases}

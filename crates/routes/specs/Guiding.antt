@@ -1,18 +1,8 @@
 -- What the code asks of a table of distances: that the one which the passes end in meets it.
-use Rattle.std.specs.Prelude.{true, List, ◌≢◌, ◌≡◌, ℕ, ◌%◌, ◌<◌, ◌≤◌, length}
-use Rattle.std.proofs.Common.{⊎_elim, ap, ◌∙◌, arith}
-use Rattle.std.proofs.Math.Logic.{by_cases}
-use Rattle.std.proofs.Math.Decide.{dec_lt}
-use Rattle.std.proofs.Math.ListN.{get_or-eq_default}
-use Rattle.walks.specs.Graph.{Graph}
-use Rattle.distances.specs.Table.{at, inf, passes}
-use Rattle.distances.proofs.PassLaws.{length-passes}
-use Rattle.automaton.specs.Built.{Built}
-use Rattle.walks.specs.Weights.{Weights}
+use Rattle.std.specs.Prelude.{List, ℕ, ◌%◌, ◌<◌, ◌≤◌, length}
+use Rattle.distances.specs.Table.{at, inf}
 use Rattle.distances.specs.Pack.{hops_limit}
-use Rattle.product.specs.Product.{step_to, state_edges}
-use Rattle.product.specs.Base.{targets, length-base, base-is}
-use Rattle.routes.specs.Distance.{at_most}
+use Rattle.product.specs.Product.{step_to}
 use Rattle.routes.specs.Route.{Guided}
 use Rattle.product.specs.Fits.{Row, Fits, fits}
 

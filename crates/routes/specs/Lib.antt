@@ -1,4 +1,4 @@
--- Meaning: the first part of Plan (what a plan is in the lent area); for this crate's contracts Word (sets of vertices as words). Laws: the others.
+-- Meaning: Plan (what a plan is in the lent area); for this crate's contracts Word (sets of vertices as words). The others define what laws speak of; the laws are in proofs/.
 pub mod Word
 pub mod Distance
 pub mod Route

@@ -1,26 +1,17 @@
 -- What a plan is, and that the search over the tables gives it.
-use Rattle.std.specs.Prelude.{Bool, true, List, [], ◌∷◌, ◌++◌, ◌≡◌, refl, ℕ, ◌-◌, ◌/◌, ◌%◌, ◌<◌, ◌≤◌, length, drop}
-use Rattle.std.proofs.Common.{sym, ap, subst, ◌∙◌, arith}
+use Rattle.std.specs.Prelude.{Bool, List, ◌++◌, ◌≡◌, ℕ, ◌-◌, ◌<◌, ◌≤◌, length, drop}
 use Rattle.walks.specs.Graph.{Graph}
 use Rattle.walks.specs.Walk.{weight_of, hops}
-use Rattle.walks.specs.Avoid.{Avoids}
 use Rattle.walks.specs.Best.{Best, None}
-use Rattle.distances.specs.Table.{at, inf, passes}
+use Rattle.distances.specs.Table.{passes}
 use Rattle.automaton.specs.Area.{Spells, Bounded, Given}
-use Rattle.states.specs.Count.{most_states}
-use Rattle.states.proofs.Count.{states-longest}
 use Rattle.automaton.specs.Built.{Built}
-use Rattle.distances.specs.Pack.{hops_limit}
 use Rattle.limits.specs.Limits.{longest}
 use Rattle.routes.specs.declared.Found.{Found}
 use Rattle.routes.specs.declared.Found.TheVariants.{Walk, Nothing}
 use Rattle.walks.specs.Weights.{Weights}
 use Rattle.product.specs.Product.{state_edges}
-use Rattle.product.specs.Base.{base, targets, directed}
-use Rattle.routes.specs.Distance.{bounded}
-use Rattle.routes.specs.Route.{walk_from}
-use Rattle.product.specs.Fits.{Fits, fits}
-use Rattle.routes.specs.Guiding.{Guiding}
+use Rattle.product.specs.Base.{base, directed}
 
 -- The best walk stands in the front of the area, with its weight (01: litres) and hops (01: changeovers) as the answer; the rest of the area is as it was.
 pub record PlannedWalk (g : Graph) (F : List (List ℕ)) (s t : ℕ) (old : List ℕ) (weight hops' : ℕ) (new : List ℕ) : Type 0 where

@@ -1,31 +1,12 @@
 -- The route of least cost over the tables: from each state over the lowest vertex that loses nothing. It is the best walk.
-use Rattle.std.specs.Prelude.{Bool, true, ◌&&◌, List, [], ◌∷◌, ◌≡◌, eqb, length}
-use Rattle.std.proofs.Math.Bool.{true≢false}
-use Rattle.std.proofs.Math.Logic.{⊎_elim}
-use Rattle.std.proofs.Math.Option.{Option, some}
+use Rattle.std.specs.Prelude.{Bool, ◌&&◌, List, [], ◌∷◌, ◌≡◌, eqb, length}
 use Rattle.std.proofs.Math.Path.{refl, ap}
-use Rattle.std.proofs.Common.{sym, ◌∙◌, arith, eq-eqb, eqb-true}
-use Prim.Native.Nat.{ℕ, zero, suc, ◌+◌, ◌/◌, ◌%◌, ◌<◌, ◌≤◌}
+use Prim.Native.Nat.{ℕ, zero, suc, ◌+◌, ◌%◌, ◌<◌}
 use Rattle.std.specs.Int.Count.{count_trailing_zeros}
-use Rattle.lists.specs.Test.{and-true}
-use Rattle.walks.specs.Graph.{Graph, arc_weight}
-use Rattle.walks.specs.Walk.{weight_of, hops}
-use Rattle.walks.specs.Avoid.{Avoids}
-use Rattle.walks.specs.Best.{Best, None}
-use Rattle.distances.specs.Table.{at, inf, passes}
+use Rattle.distances.specs.Table.{at}
 use Rattle.distances.specs.Pack.{pack, hops_limit}
-use Rattle.states.specs.States.{latest}
-use Rattle.states.specs.Automaton.{go}
-use Rattle.states.specs.Cost.{Cost, via, cost_of}
-use Rattle.states.specs.Greedy.{Usable, Greedy}
-use Rattle.states.proofs.Greedy.{greedy_cost, greedy_best, settled-none}
-use Rattle.automaton.specs.Built.{Built}
-use Rattle.routes.specs.Word.{word, Lowest}
-use Rattle.walks.specs.Weights.{Weights}
-use Rattle.product.specs.Product.{arc_at, step_to, is_open, state_edges}
-use Rattle.product.specs.ProductLaws.{word_of, Numbered, word-numbered, open_step, step_open, step-number, step-below, step-weight}
-use Rattle.product.specs.Base.{targets}
-use Rattle.routes.specs.Distance.{unpacked, reading, reading-some, reading-none, some-reading, distance, distance-at, bounded, settled, entry-cases}
+use Rattle.routes.specs.Word.{word}
+use Rattle.product.specs.Product.{arc_at, step_to, is_open}
 
 module _ (weights steps blockeds latests d : List ℕ) where
   -- v is usable at state q: the entry falls by the arc to v and one hop.

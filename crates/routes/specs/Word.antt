@@ -1,10 +1,5 @@
 -- Sets of vertices as words: bit v is set exactly if v is in the set. The trailing zeros of a word give the lowest vertex of its set.
-use Rattle.std.specs.Prelude.{Bool, true, false, cond, ◌⊎◌, ◌≡◌, refl, ℕ, zero, suc, ◌+◌, ◌*◌, ◌/◌, ◌%◌, ◌^◌, ◌<◌, ◌≤◌}
-use Rattle.std.proofs.Common.{inl, inr, ⊎_elim, ap, ◌∙◌, pow-suc, arith}
-use Rattle.std.proofs.Math.Logic.{by_cases}
-use Rattle.std.proofs.Math.Decide.{ℕ_discrete}
-use Rattle.std.specs.Int.Count.{count_trailing_zeros, under}
-use Rattle.lists.specs.Test.{either}
+use Rattle.std.specs.Prelude.{Bool, true, false, cond, ◌≡◌, ℕ, zero, suc, ◌+◌, ◌^◌, ◌<◌}
 
 -- The word of the vertices below n that pass p.
 unfoldable pub word : (ℕ → Bool) → ℕ → ℕ

@@ -1,5 +1,5 @@
--- Laws of entries and of the runs area.
-use Rattle.std.specs.Prelude.{ℕ, zero, suc, ◌+◌, ◌-◌, ◌*◌, ◌≤◌, ◌<◌, ◌||◌, List, [], ◌∷◌, ◌++◌, map, ◌≡◌, refl, length, get_or, take, drop, replicate}
+-- The laws of what specs/AreaLaws.antt defines.
+use Rattle.std.specs.Prelude.{ℕ, zero, suc, ◌+◌, ◌-◌, ◌*◌, ◌≤◌, ◌<◌, ◌||◌, List, [], ◌∷◌, ◌++◌, map, ◌≡◌, refl, length, get_or, take, drop}
 use Rattle.std.proofs.Common.{append_assoc, sym, ap, ap₂, ◌∙◌, add-zero, zero-add, arith, length-append, length-drop, take_at, drop_at, drop-drop, take-take, get_or-take, get_or-drop, length-take-le}
 use Rattle.std.proofs.lemmas.List.{map-append, length-replicate, replicate-append-replicate}
 use Rattle.std.proofs.Math.Seq.{paste, take-append_seam, drop-append-add}

@@ -1,4 +1,4 @@
--- The laws of binding.
+-- The laws of what specs/Laws.antt defines.
 use Rattle.std.specs.Prelude.{ℕ, ◌≤◌, Bool, cond, ◌≡◌, length, drop}
 use Rattle.std.proofs.Math.Bool.{true, false}
 use mathlib.Core.List.Memᴰ

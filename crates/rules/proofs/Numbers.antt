@@ -1,11 +1,9 @@
--- A refusal is known by its number and its place.
-use Rattle.std.specs.Prelude.{◌≡◌, List, [], ◌∷◌}
+-- The laws of what specs/Numbers.antt defines.
+use Rattle.std.specs.Prelude.{List, [], ◌∷◌}
 use Rattle.std.proofs.Common.{subst, inl, inr}
 use denote.Enum.Declared.{Choice}
 use denote.Struct.Field.{Field}
-use denote.Struct.Values.{Values}
 use Rattle.book.specs.declared.Refusal.{Refusal}
-use Rattle.book.specs.Refusal.{number_of, numbered}
 use Rattle.book.specs.contracts.Refusal.{the_parts as parts, the_make as make, as_values, the_eta as eta}
 use Rattle.rules.specs.Numbers.{InEach, Again}
 

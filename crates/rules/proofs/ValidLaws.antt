@@ -1,4 +1,4 @@
--- Laws of valid areas: what one holds, and that an area written with paths by the book's rules is one.
+-- The laws of what specs/ValidLaws.antt defines.
 use Rattle.std.specs.Prelude.{ℕ, ◌-◌, ◌≤◌, Bool, ◌&&◌, List, [], ◌∷◌, ◌++◌, map, ◌≡◌, refl, leb, length, get_or, replicate}
 use Rattle.std.proofs.Math.Bool.{true}
 use Rattle.std.proofs.Common.{append_assoc, sym, ap₂, ◌∙◌, arith, leb-true, le-leb}
@@ -8,7 +8,7 @@ use Rattle.std.proofs.Math.Seq.{take_at}
 use Rattle.lists.specs.Test.{all, and-true}
 use Rattle.walks.specs.Avoid.{same}
 use Rattle.book.specs.Book.{All, IsPath, is_path}
-use Rattle.book.proofs.BookLaws.{is_path→IsPath, IsPath→is_path, all_map}
+use Rattle.book.proofs.BookLaws.{IsPath→is_path, all_map}
 use Rattle.book.specs.Tables.{entry, entries}
 use Rattle.rules.specs.Binding.{once}
 use Rattle.rules.specs.Area.{written, blocks, path_of, spelled, is_entry, valid}

@@ -1,23 +1,14 @@
 -- The laws of binding.
-use Rattle.std.specs.Prelude.{ℕ, ◌≤◌, Bool, cond, ◌≡◌, length, drop}
-use Rattle.std.proofs.Math.Bool.{true, false}
+use Rattle.std.specs.Prelude.{ℕ, ◌≤◌, ◌≡◌, length}
+use Rattle.std.proofs.Math.Bool.{true}
 use mathlib.Core.List.Memᴰ
-use mathlib.Core.List.Permᴰ
-use mathlib.Core.List.{List, [], ◌∷◌, ◌++◌, append-nil, Memᴰ, Permᴰ}
-use Rattle.std.proofs.Math.Logic.{⊎_elim}
-use Rattle.std.proofs.Math.Option.{Option, none, some}
-use Rattle.std.proofs.Math.Path.{refl}
-use Rattle.std.proofs.Common.{sym, ap, ap₂, subst, ◌∙◌, arith, length-append}
-use Rattle.walks.specs.Avoid.{◌⊆◌}
-use Rattle.book.specs.declared.Refusal.{Refusal}
-use Rattle.book.specs.Refusal.{refusal_by}
-use Rattle.book.specs.Book.{RuleSet, Book, WellFormed, All, IsPath}
-use Rattle.book.proofs.BookLaws.{reading-is-book}
+use mathlib.Core.List.{List, Memᴰ}
+use Rattle.book.specs.Book.{RuleSet, Book, All, IsPath}
 use Rattle.book.specs.Reading.{Reading, reading}
-use Rattle.rules.specs.Binding.{applies, applied, known, once}
-use Rattle.rules.specs.Area.{written, spelled, valid}
+use Rattle.rules.specs.Binding.{applies, known, once}
+use Rattle.rules.specs.Area.{spelled, valid}
 use Rattle.limits.specs.Limits.{area_size, most_paths}
-use Rattle.rules.specs.Operations.{Binding, bound_unless, bind_tests, binding_of, binding, area_after}
+use Rattle.rules.specs.Operations.{binding, area_after}
 
 -- ---- the known paths are those of the rule sets that apply
 -- A path of a rule set that applies.

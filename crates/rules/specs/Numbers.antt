@@ -1,12 +1,11 @@
 -- A refusal is known by its number and its place.
 use Rattle.std.specs.Prelude.{◌≡◌, List, [], ◌∷◌}
-use Rattle.std.proofs.Common.{subst, inl, inr}
+use Rattle.std.proofs.Common.{inl, inr}
 use denote.Enum.Declared.{Choice}
 use denote.Struct.Field.{Field}
 use denote.Struct.Values.{Values}
 use Rattle.book.specs.declared.Refusal.{Refusal}
 use Rattle.book.specs.Refusal.{number_of, numbered}
-use Rattle.book.specs.contracts.Refusal.{the_parts as parts, the_make as make, as_values, the_eta as eta}
 
 -- What holds in each case of an enum holds of all its values.
 abbrev pub InEach : (cases : List (List Field)) → (Choice cases → Type 0) → Type 0

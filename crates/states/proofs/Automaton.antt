@@ -1,5 +1,5 @@
--- The automaton of a set of forbidden paths (Aho and Corasick): its steps, its failure links, and what is blocked at a state.
-use Rattle.std.specs.Prelude.{Bool, not, ◌||◌, ◌⊎◌, ◌↔◌, ◌≡◌}
+-- The laws of what specs/Automaton.antt defines.
+use Rattle.std.specs.Prelude.{not, ◌||◌, ◌⊎◌, ◌↔◌, ◌≡◌}
 use Rattle.std.proofs.Math.Bool.{false, cond}
 use mathlib.Core.List.Memᴰ
 use mathlib.Core.List.{List, [], ◌∷◌, ◌++◌, reverse, reverse-reverse, append-nil, Memᴰ}
@@ -11,7 +11,7 @@ use Rattle.std.proofs.Math.ListN.{length}
 use Rattle.std.proofs.lemmas.List.{length-reverse}
 use Rattle.std.proofs.Math.Seq.{take-length, get_or-take}
 use Rattle.std.proofs.Math.Facts.{or_yes}
-use Rattle.lists.specs.Test.{conj, any, any→some, some→any, or_left, or_right, T_ext}
+use Rattle.lists.specs.Test.{conj, any→some, some→any, or_left, or_right, T_ext}
 use Rattle.walks.specs.Avoid.{Occurs, occurs, is_prefix, same, Avoids, Long}
 use Rattle.walks.proofs.Avoid.{is_prefix→append, is_prefix-refl, same→≡, same_refl, occurs→Occurs, Occurs→occurs, Occurs-reverse}
 use Rattle.states.specs.Longest.{longest_front}

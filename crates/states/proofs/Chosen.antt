@@ -1,8 +1,8 @@
--- The best walk as a function: the least of the feasible walks with at most 1,600 vertices. It is for statements: nothing computes it.
-use Rattle.std.specs.Prelude.{Bool, true, false, cond, ◌⊎◌, ◌≡◌, ℕ, zero, suc, ◌+◌, ◌*◌, ◌<◌, ◌≤◌, length, get_or}
+-- The laws of what specs/Chosen.antt defines.
+use Rattle.std.specs.Prelude.{◌≡◌, ℕ, zero, suc, ◌+◌, ◌*◌, ◌<◌, ◌≤◌, length, get_or}
 use mathlib.Core.List.Memᴰ
-use mathlib.Core.List.{List, [], ◌∷◌, ◌++◌, map, List-discrete, Memᴰ}
-use Rattle.std.proofs.Common.{inl, inr, ⊎_elim, sym, ap, subst, arith}
+use mathlib.Core.List.{List, [], ◌∷◌, map, List-discrete, Memᴰ}
+use Rattle.std.proofs.Common.{inl, inr, sym, ap, subst, arith}
 use Rattle.std.proofs.Math.Logic.{by_cases}
 use Rattle.std.proofs.Math.Option.{Option, none, some}
 use Rattle.std.proofs.Math.Path.{refl}
@@ -14,8 +14,8 @@ use Rattle.walks.specs.Walk.{weight_from}
 use Rattle.walks.specs.Avoid.{Avoids}
 use Rattle.walks.proofs.Avoid.{Avoids-front}
 use Rattle.walks.specs.Order.{◌≼⟨◌⟩◌}
-use Rattle.walks.proofs.Order.{≼_refl, ≼_trans, ≼-total}
-use Rattle.walks.specs.Best.{Feasible, Best, None}
+use Rattle.walks.proofs.Order.{≼_refl, ≼_trans}
+use Rattle.walks.specs.Best.{Feasible, Best}
 use Rattle.walks.proofs.Best.{Feasible-cons}
 use Rattle.walks.specs.Feasible.{is_feasible}
 use Rattle.walks.proofs.Feasible.{is_feasible→Feasible, Feasible→is_feasible}

@@ -1,12 +1,8 @@
--- What a walk costs: weight, then hops.
-use Rattle.std.specs.Prelude.{List, ◌≡◌, ℕ, suc, ◌+◌, ◌≤◌, length}
+-- The laws of what specs/Cost.antt defines.
+use Rattle.std.specs.Prelude.{◌≡◌, ℕ, ◌≤◌}
 use Rattle.std.proofs.Common.{inl, inr, arith, le_trans}
-use Rattle.walks.specs.Graph.{Graph}
-use Rattle.walks.specs.Walk.{weight_from}
-use Rattle.walks.specs.Order.{Tiebreak}
 use Rattle.walks.proofs.Order.{Tiebreak-antisym}
 use Rattle.walks.proofs.Preorder.{Tiebreak-trans}
-use Rattle.states.specs.States.{latest}
 use Rattle.states.specs.Cost.{Cost, ◌≤ᶜ◌, via}
 
 pub ≤ᶜ-trans : {x y z : Cost} → x ≤ᶜ y → y ≤ᶜ z → x ≤ᶜ z

@@ -1,4 +1,4 @@
--- How many states there are: at most one for each vertex, and length - 2 for each forbidden path.
+-- The laws of what specs/Count.antt defines.
 use mathlib.Core.List.Memᴰ
 use mathlib.Core.List.{List, [], ◌∷◌, ◌++◌, reverse, reverse_aux, reverse_aux-eq, reverse-reverse, List-discrete, Memᴰ}
 use Rattle.std.specs.Prelude.{◌⊎◌, ◌≡◌, refl, ℕ, zero, suc, ◌+◌, ◌-◌, ◌*◌, ◌<◌, ◌≤◌, length, get_or, take, drop}

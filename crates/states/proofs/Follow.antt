@@ -1,10 +1,10 @@
--- Walks as paths of the automaton: from the state of the start, each vertex over an unblocked step.
-use Rattle.std.specs.Prelude.{Bool, true, not, ◌&&◌, ◌↔◌, ◌≡◌, ℕ, ◌<◌, T, length, get_or}
+-- The laws of what specs/Follow.antt defines.
+use Rattle.std.specs.Prelude.{◌↔◌, ◌≡◌, ℕ, ◌<◌, T, length, get_or}
 use mathlib.Core.List.{List, [], ◌∷◌, reverse, reverse_aux, reverse_aux-eq}
 use Rattle.std.proofs.Math.Path.{refl}
 use Rattle.std.proofs.Common.{sym, ◌∙◌, arith}
 use Rattle.lists.specs.Test.{conj}
-use Rattle.walks.specs.Graph.{Graph, is_arc}
+use Rattle.walks.specs.Graph.{Graph}
 use Rattle.walks.specs.Walk.{Walk}
 use Rattle.walks.proofs.Walk.{Walk-single, Walk-cons, Walk-tail}
 use Rattle.walks.specs.Avoid.{Avoids}
@@ -13,7 +13,7 @@ use Rattle.walks.specs.Order.{◌≼⟨◌⟩◌}
 use Rattle.walks.specs.Best.{Feasible, Best, None}
 use Rattle.walks.proofs.Best.{Feasible-cons}
 use Rattle.states.specs.States.{latest}
-use Rattle.states.specs.Automaton.{state, go, blocked}
+use Rattle.states.specs.Automaton.{state, go}
 use Rattle.states.proofs.Automaton.{state_cons, latest-go, avoids_cons}
 use Rattle.states.specs.Follow.{unblocked, Follows}
 

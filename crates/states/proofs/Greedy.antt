@@ -1,4 +1,4 @@
--- The best walk from a settled table of distances: at each state the lowest usable vertex.
+-- The laws of what specs/Greedy.antt defines.
 use Rattle.std.specs.Prelude.{List, [], ◌∷◌, ◌≡◌, refl, ℕ, ◌<◌, length}
 use Rattle.std.proofs.Common.{inl, inr, sym, ap, ◌∙◌, arith}
 use Rattle.std.proofs.Math.Option.{Option, none, some, none-ne-some}
@@ -11,7 +11,7 @@ use Rattle.walks.specs.Best.{Best, None}
 use Rattle.states.specs.States.{latest}
 use Rattle.states.specs.Automaton.{go}
 use Rattle.states.proofs.Automaton.{latest-go}
-use Rattle.states.specs.Follow.{Step, Follows}
+use Rattle.states.specs.Follow.{Follows}
 use Rattle.states.proofs.Follow.{follows-best, follows-none}
 use Rattle.states.specs.Cost.{Cost, ◌≤ᶜ◌, via, cost_of}
 use Rattle.states.proofs.Cost.{≤ᶜ-trans, ≤ᶜ-antisym, via_mono, via_cancel}

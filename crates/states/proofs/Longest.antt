@@ -1,4 +1,4 @@
--- The longest front part of a list that passes a test. A walk is held reversed, latest vertex first, so a front part is a suffix of the walk.
+-- The laws of what specs/Longest.antt defines.
 use Rattle.std.specs.Prelude.{Bool, true, false, ◌&&◌, cond, List, [], ◌∷◌, ◌≡◌, refl, ℕ, zero, suc, ◌<◌, ◌≤◌, T, eqb, length, take}
 use Rattle.std.proofs.Common.{sym, ap, ◌∙◌, arith, length-append, length-take, take-take, length-take-le}
 use Rattle.std.proofs.Math.Decide.{dec_lt, ℕ_discrete}

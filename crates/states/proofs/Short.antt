@@ -1,4 +1,4 @@
--- Best walks are short: they come to no state twice.
+-- The laws of what specs/Short.antt defines.
 use mathlib.Core.List.Memᴰ
 use mathlib.Core.List.{List, [], ◌∷◌, Memᴰ}
 use Rattle.std.proofs.Common.{inl, inr, sym, ap, subst, arith}

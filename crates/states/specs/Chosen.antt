@@ -1,28 +1,21 @@
 -- The best walk as a function: the least of the feasible walks with at most 1,600 vertices. It is for statements: nothing computes it.
-use Rattle.std.specs.Prelude.{Bool, true, false, cond, ◌⊎◌, ◌≡◌, ℕ, zero, suc, ◌+◌, ◌*◌, ◌<◌, ◌≤◌, length, get_or}
+use Rattle.std.specs.Prelude.{Bool, true, false, cond, ◌⊎◌, ◌≡◌, ℕ, zero, suc, ◌+◌, ◌<◌, ◌≤◌, length}
 use mathlib.Core.List.Memᴰ
-use mathlib.Core.List.{List, [], ◌∷◌, ◌++◌, map, List-discrete, Memᴰ}
-use Rattle.std.proofs.Common.{inl, inr, ⊎_elim, sym, ap, subst, arith}
-use Rattle.std.proofs.Math.Logic.{by_cases}
+use mathlib.Core.List.{List, [], ◌∷◌, ◌++◌, map, Memᴰ}
+use Rattle.std.proofs.Common.{inl, inr, ⊎_elim}
 use Rattle.std.proofs.Math.Option.{Option, none, some}
 use Rattle.std.proofs.Math.Path.{refl}
-use Rattle.std.proofs.Math.Decide.{ℕ_discrete, dec_lt}
 use Rattle.std.proofs.Math.Dec.{T}
-use Rattle.lists.specs.Distinct.{Distinct, mem?}
+use Rattle.lists.specs.Distinct.{Distinct}
 use Rattle.walks.specs.Graph.{Graph}
 use Rattle.walks.specs.Walk.{weight_from}
-use Rattle.walks.specs.Avoid.{Avoids}
-use Rattle.walks.proofs.Avoid.{Avoids-front}
 use Rattle.walks.specs.Order.{◌≼⟨◌⟩◌}
 use Rattle.walks.proofs.Order.{≼_refl, ≼_trans, ≼-total}
 use Rattle.walks.specs.Best.{Feasible, Best, None}
-use Rattle.walks.proofs.Best.{Feasible-cons}
 use Rattle.walks.specs.Feasible.{is_feasible}
-use Rattle.walks.proofs.Feasible.{is_feasible→Feasible, Feasible→is_feasible}
-use Rattle.states.specs.States.{vertex, latest}
-use Rattle.states.specs.Automaton.{go}
+use Rattle.states.specs.States.{latest}
 use Rattle.states.specs.Follow.{Follows}
-use Rattle.limits.specs.Limits.{most_vertices, most_paths, longest, longest_path}
+use Rattle.limits.specs.Limits.{longest}
 use Rattle.states.specs.Short.{trace}
 
 -- ---- every feasible walk has a short one that does not come after it

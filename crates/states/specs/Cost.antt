@@ -1,11 +1,8 @@
 -- What a walk costs: weight, then hops.
-use Rattle.std.specs.Prelude.{List, ◌≡◌, ℕ, suc, ◌+◌, ◌≤◌, length}
-use Rattle.std.proofs.Common.{inl, inr, arith, le_trans}
+use Rattle.std.specs.Prelude.{List, ℕ, suc, ◌+◌, ◌≤◌, length}
 use Rattle.walks.specs.Graph.{Graph}
 use Rattle.walks.specs.Walk.{weight_from}
 use Rattle.walks.specs.Order.{Tiebreak}
-use Rattle.walks.proofs.Order.{Tiebreak-antisym}
-use Rattle.walks.proofs.Preorder.{Tiebreak-trans}
 use Rattle.states.specs.States.{latest}
 
 pub record Cost : Type 0 where

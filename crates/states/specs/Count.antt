@@ -1,16 +1,10 @@
 -- How many states there are: at most one for each vertex, and length - 2 for each forbidden path.
 use mathlib.Core.List.Memᴰ
-use mathlib.Core.List.{List, [], ◌∷◌, ◌++◌, reverse, reverse_aux, reverse_aux-eq, reverse-reverse, List-discrete, Memᴰ}
-use Rattle.std.specs.Prelude.{◌⊎◌, ◌≡◌, refl, ℕ, zero, suc, ◌+◌, ◌-◌, ◌*◌, ◌<◌, ◌≤◌, length, get_or, take, drop}
-use Rattle.std.proofs.Common.{inl, inr, sym, ap, ◌∙◌, arith, suc-mul, length-append, take_at, length-take-le}
-use Rattle.std.proofs.Math.Logic.{by_cases}
-use Rattle.std.proofs.Math.Decide.{ℕ_discrete}
-use Rattle.std.proofs.lemmas.List.{length-reverse}
-use Rattle.std.proofs.Math.Seq.{split_at}
-use Rattle.walks.specs.Avoid.{◌⊆◌}
-use Rattle.states.specs.States.{State, vertex, prefix, latest}
-use Rattle.lists.specs.Distinct.{Distinct, distinct-length, dedup}
-use Rattle.limits.specs.Limits.{most_vertices, most_paths, longest, longest_path}
+use mathlib.Core.List.{List, [], ◌∷◌, ◌++◌, reverse, Memᴰ}
+use Rattle.std.specs.Prelude.{ℕ, zero, suc, ◌+◌, ◌-◌, ◌*◌, ◌<◌, length, take}
+use Rattle.states.specs.States.{State, latest}
+use Rattle.lists.specs.Distinct.{Distinct}
+use Rattle.limits.specs.Limits.{most_vertices, most_paths}
 
 -- The single vertices below n.
 abbrev pub vertices : ℕ → List (List ℕ)

@@ -1,19 +1,9 @@
 -- Walks as paths of the automaton: from the state of the start, each vertex over an unblocked step.
-use Rattle.std.specs.Prelude.{Bool, true, not, ◌&&◌, ◌↔◌, ◌≡◌, ℕ, ◌<◌, T, length, get_or}
-use mathlib.Core.List.{List, [], ◌∷◌, reverse, reverse_aux, reverse_aux-eq}
-use Rattle.std.proofs.Math.Path.{refl}
-use Rattle.std.proofs.Common.{sym, ◌∙◌, arith}
-use Rattle.lists.specs.Test.{conj}
+use Rattle.std.specs.Prelude.{Bool, true, not, ◌&&◌, ◌≡◌, ℕ, ◌<◌, T}
+use mathlib.Core.List.{List, [], ◌∷◌}
 use Rattle.walks.specs.Graph.{Graph, is_arc}
-use Rattle.walks.specs.Walk.{Walk}
-use Rattle.walks.proofs.Walk.{Walk-single, Walk-cons, Walk-tail}
-use Rattle.walks.specs.Avoid.{Avoids}
-use Rattle.walks.proofs.Avoid.{Avoids-front}
-use Rattle.walks.specs.Order.{◌≼⟨◌⟩◌}
-use Rattle.walks.specs.Best.{Feasible, Best, None}
-use Rattle.walks.proofs.Best.{Feasible-cons}
 use Rattle.states.specs.States.{latest}
-use Rattle.states.specs.Automaton.{state, go, blocked}
+use Rattle.states.specs.Automaton.{go, blocked}
 
 -- From state q, no vertex of c is blocked in its turn.
 abbrev pub unblocked : List (List ℕ) → List ℕ → List ℕ → Bool

@@ -1,17 +1,11 @@
 -- The best walk from a settled table of distances: at each state the lowest usable vertex.
-use Rattle.std.specs.Prelude.{List, [], ◌∷◌, ◌≡◌, refl, ℕ, ◌<◌, length}
-use Rattle.std.proofs.Common.{inl, inr, sym, ap, ◌∙◌, arith}
-use Rattle.std.proofs.Math.Option.{Option, none, some, none-ne-some}
-use Rattle.std.proofs.Math.Decide.{dec_lt}
+use Rattle.std.specs.Prelude.{List, [], ◌∷◌, ◌≡◌, ℕ, ◌<◌}
+use Rattle.std.proofs.Math.Option.{Option, some}
 use Rattle.walks.specs.Graph.{Graph, arc_weight}
-use Rattle.walks.specs.Walk.{weight_from}
-use Rattle.walks.specs.Order.{Lex, ◌≼⟨◌⟩◌}
-use Rattle.walks.specs.Avoid.{Avoids}
-use Rattle.walks.specs.Best.{Best, None}
 use Rattle.states.specs.States.{latest}
 use Rattle.states.specs.Automaton.{go}
-use Rattle.states.specs.Follow.{Step, Follows}
-use Rattle.states.specs.Cost.{Cost, ◌≤ᶜ◌, via, cost_of}
+use Rattle.states.specs.Follow.{Step}
+use Rattle.states.specs.Cost.{Cost, ◌≤ᶜ◌, via}
 
 -- D is a settled table of distances to t over the states Q: 0 at t, and no step makes any of them less.
 pub record Settled (g : Graph) (F : List (List ℕ)) (t : ℕ) (Q : List ℕ → Type 0) (D : List ℕ → Option Cost) : Type 0 where

@@ -1,10 +1,5 @@
 -- The longest front part of a list that passes a test. A walk is held reversed, latest vertex first, so a front part is a suffix of the walk.
-use Rattle.std.specs.Prelude.{Bool, true, false, ◌&&◌, cond, List, [], ◌∷◌, ◌≡◌, refl, ℕ, zero, suc, ◌<◌, ◌≤◌, T, eqb, length, take}
-use Rattle.std.proofs.Common.{sym, ap, ◌∙◌, arith, length-append, length-take, take-take, length-take-le}
-use Rattle.std.proofs.Math.Decide.{dec_lt, ℕ_discrete}
-use Rattle.std.proofs.Math.Seq.{take-append_seam}
-use Rattle.walks.specs.Avoid.{is_prefix}
-use Rattle.walks.proofs.Avoid.{is_prefix→append}
+use Rattle.std.specs.Prelude.{Bool, cond, List, [], ◌≡◌, ℕ, zero, suc, ◌<◌, ◌≤◌, T, take}
 
 -- The longest of take 1 w … take n w that passes P, or [].
 abbrev pub longest_front : (List ℕ → Bool) → ℕ → List ℕ → List ℕ

@@ -1,11 +1,8 @@
 -- The states of the automaton of forbidden paths. A state, and the walked part of a walk, is held latest vertex first: a step is a cons, and a suffix is a front part.
-use Rattle.std.specs.Prelude.{Bool, true, false, ◌&&◌, ◌≡◌, refl, ℕ, ◌<◌, T, ltb, length, get_or}
-use mathlib.Core.List.{List, [], ◌∷◌, ◌++◌, reverse, reverse_aux, reverse_aux-eq, Memᴰ}
-use Rattle.std.proofs.Common.{ap, arith, ltb→lt, lt→ltb, length-append}
-use Rattle.std.proofs.lemmas.List.{length-reverse}
-use Rattle.lists.specs.Test.{conj, any, any→some, some→any}
+use Rattle.std.specs.Prelude.{Bool, true, false, ◌&&◌, ◌≡◌, ℕ, ◌<◌, ltb, length, get_or}
+use mathlib.Core.List.{List, [], ◌∷◌, reverse, reverse_aux, Memᴰ}
+use Rattle.lists.specs.Test.{any}
 use Rattle.walks.specs.Avoid.{is_prefix}
-use Rattle.walks.proofs.Avoid.{is_prefix→append, append→is_prefix}
 
 -- q is a proper prefix of r.
 abbrev pub is_proper : List ℕ → List ℕ → Bool

@@ -1,3 +1,3 @@
--- Meaning: Text. Laws: TextLaws, Writing (what a function that writes leaves).
+-- Meaning: Text. Writing: what a function that writes leaves, with its laws. TextLaws is in proofs/.
 pub mod Text
 pub mod Writing

@@ -1,5 +1,5 @@
--- When begin and a report are accepted: each test of theirs holds.
-use Rattle.std.specs.Prelude.{◌≤◌, ◌<◌, ◌≡◌, T, length}
+-- The laws of what specs/Accepted.antt defines.
+use Rattle.std.specs.Prelude.{◌≤◌, ◌≡◌, length}
 use mathlib.Core.List.{List, [], ◌∷◌, ◌++◌}
 use Rattle.std.proofs.Math.Option.{none}
 use Rattle.std.proofs.Common.{arith, length-append}
@@ -11,7 +11,7 @@ use Rattle.book.specs.Refusal.{Test, test, refusal_by}
 use Rattle.book.specs.RefusalLaws.{Hold}
 use Rattle.book.proofs.RefusalLaws.{none→hold, hold→none, first-of_append}
 use Rattle.limits.specs.Limits.{area_size, longest}
-use Rattle.trial_rules.specs.Trials.{Report, State, path_area, area_tests, begin_tests, oracle_tests, state_tests, is_named, has_room, refusal, Valid, is_valid, Begin}
+use Rattle.trial_rules.specs.Trials.{Report, State, path_area, area_tests, begin_tests, oracle_tests, state_tests, has_room, refusal, Valid, is_valid, Begin}
 use Rattle.trial_rules.proofs.Tests.{is_valid→Valid, Valid→is_valid}
 use Rattle.trial_rules.specs.Accepted.{Accepted, Accepts}
 

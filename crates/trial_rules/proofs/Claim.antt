@@ -1,8 +1,8 @@
--- The claim about the list (01, 'Trials'): after every list of reports the record and every byte of both areas are those that the three
-use Rattle.std.specs.Prelude.{ℕ, ◌+◌, ◌≡◌, Bool, true, false, cond, ◌&&◌, ◌≢◌, ◌↔◌, eqb, length, drop}
+-- The laws of what specs/Claim.antt defines.
+use Rattle.std.specs.Prelude.{ℕ, ◌+◌, ◌≡◌, Bool, true, false, cond, ◌&&◌, eqb, length}
 use Rattle.std.proofs.Math.Path.{refl, ap}
 use Rattle.std.proofs.Common.{sym, ◌∙◌, arith, eqb-true, eq-eqb, length-append, length-drop}
-use mathlib.Core.List.{List, [], ◌∷◌, ◌++◌, Memᴰ}
+use mathlib.Core.List.{List, [], ◌∷◌, Memᴰ}
 use Rattle.std.proofs.Math.Logic.{by_cases}
 use Rattle.std.proofs.Math.Option.{Option, none, some}
 use Rattle.std.proofs.Math.Decide.{ℕ_discrete}
@@ -10,10 +10,9 @@ use Rattle.lists.specs.Test.{true→T}
 use Rattle.walks.specs.Graph.{Graph}
 use Rattle.walks.specs.Avoid.{occurs}
 use Rattle.walks.proofs.Avoid.{occurs→Occurs}
-use Rattle.walks.specs.Best.{Best, None}
 use Rattle.walks.proofs.Best.{Best-not-None}
 use Rattle.book.specs.declared.Refusal.{Refusal}
-use Rattle.book.specs.Refusal.{numbered, refusal_by}
+use Rattle.book.specs.Refusal.{numbered}
 use Rattle.book.specs.RefusalLaws.{Fails, here, later}
 use Rattle.book.proofs.RefusalLaws.{first-fails}
 use Rattle.book.specs.Book.{is_path}
@@ -21,7 +20,7 @@ use Rattle.rules.specs.Area.{written}
 use Rattle.limits.specs.Limits.{area_size}
 use Rattle.rules.proofs.Sets.{refuted}
 use Rattle.rules.proofs.ValidLaws.{written-length}
-use Rattle.trial_rules.specs.Trials.{Report, passed, failed, State, path_area, standing, trials, oracle_tests, passed_in, Valid, Plan, refusal, overlaid, step, unless, run, accepted, named, failures, passes, replanned, Begin, begun, state_after, accepted_of}
+use Rattle.trial_rules.specs.Trials.{Report, passed, failed, State, standing, oracle_tests, passed_in, Plan, refusal, step, unless, run, accepted, named, failures, passes, Begin, begun, state_after, accepted_of}
 use Rattle.trial_rules.proofs.Tests.{set-paths, set-once}
 use Rattle.trial_rules.proofs.Accepted.{begin-accepted, only-oracle}
 use Rattle.trial_rules.proofs.Invariant.{Invariant, invariant_begin, invariant_step, kept, anything}

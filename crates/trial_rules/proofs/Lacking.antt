@@ -1,4 +1,4 @@
--- The different paths of two sets together, and those that the first lacks.
+-- The laws of what specs/Lacking.antt defines.
 use Rattle.std.specs.Prelude.{ℕ, ◌≡◌, Bool, cond, ◌⊎◌}
 use Rattle.std.proofs.Math.Path.{refl}
 use Rattle.std.proofs.Common.{sym, ◌∙◌, inl, inr}

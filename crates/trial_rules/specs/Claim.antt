@@ -1,28 +1,12 @@
 -- The claim about the list (01, 'Trials'): after every list of reports the record and every byte of both areas are those that the three
 -- rules give, and failed and passed count the accepted reports of their kind.
-use Rattle.std.specs.Prelude.{ℕ, ◌+◌, ◌≡◌, Bool, true, false, cond, ◌&&◌, ◌≢◌, ◌↔◌, eqb, length, drop}
-use Rattle.std.proofs.Math.Path.{refl, ap}
-use Rattle.std.proofs.Common.{sym, ◌∙◌, arith, eqb-true, eq-eqb, length-append, length-drop}
-use mathlib.Core.List.{List, [], ◌∷◌, ◌++◌, Memᴰ}
-use Rattle.std.proofs.Math.Logic.{by_cases}
-use Rattle.std.proofs.Math.Option.{Option, none, some}
-use Rattle.std.proofs.Math.Decide.{ℕ_discrete}
-use Rattle.lists.specs.Test.{true→T}
-use Rattle.walks.specs.Graph.{Graph}
-use Rattle.walks.specs.Avoid.{occurs}
-use Rattle.walks.proofs.Avoid.{occurs→Occurs}
+use Rattle.std.specs.Prelude.{◌+◌, ◌≡◌, ◌≢◌, ◌↔◌, length, drop}
+use mathlib.Core.List.{List, ◌++◌}
 use Rattle.walks.specs.Best.{Best, None}
-use Rattle.walks.proofs.Best.{Best-not-None}
-use Rattle.book.specs.declared.Refusal.{Refusal}
-use Rattle.book.specs.Refusal.{numbered, refusal_by}
-use Rattle.book.specs.RefusalLaws.{Fails, here, later}
-use Rattle.book.proofs.RefusalLaws.{first-fails}
-use Rattle.book.specs.Book.{is_path}
+use Rattle.book.specs.Refusal.{refusal_by}
 use Rattle.rules.specs.Area.{written}
 use Rattle.limits.specs.Limits.{area_size}
-use Rattle.rules.proofs.Sets.{refuted}
-use Rattle.rules.proofs.ValidLaws.{written-length}
-use Rattle.trial_rules.specs.Trials.{Report, passed, failed, State, path_area, standing, trials, oracle_tests, passed_in, Valid, Plan, refusal, overlaid, step, unless, run, accepted, named, failures, passes, replanned, Begin, begun, state_after, accepted_of}
+use Rattle.trial_rules.specs.Trials.{Report, passed, failed, State, path_area, standing, trials, oracle_tests, Valid, refusal, overlaid, named, failures, passes, replanned, Begin}
 
 module _ (b : Begin) where
   open b use {graph as g, plan, bound as F₀, start as s, end as t, paths, area}

@@ -1,21 +1,13 @@
 -- The oracle theorem (demand 3): what holds after every list of reports of an oracle (01: a lab) that is true to a set of forbidden paths.
-use Rattle.std.specs.Prelude.{ℕ, ◌+◌, ◌≤◌, ◌≡◌, Bool, true, false, cond, ◌≢◌, ◌⊎◌, ◌↔◌, T, eqb, length}
-use mathlib.Core.List.{List, [], ◌∷◌, ◌++◌, Memᴰ}
-use Rattle.std.proofs.Common.{inl, inr, ⊎_elim, arith, lt→ltb, length-append}
-use Rattle.std.proofs.Math.Logic.{by_cases}
-use Rattle.std.proofs.Math.Option.{Option, none, some}
-use Rattle.std.proofs.Math.Decide.{ℕ_discrete}
-use Rattle.std.specs.Float.Ieee.Fits.{and_i}
-use Rattle.lists.specs.Distinct.{Distinct, distinct-length}
+use Rattle.std.specs.Prelude.{ℕ, ◌+◌, ◌≤◌, ◌≡◌, ◌≢◌, ◌⊎◌, ◌↔◌, T, length}
+use mathlib.Core.List.{List, ◌++◌, Memᴰ}
+use Rattle.std.proofs.Math.Option.{none}
 use Rattle.walks.specs.Walk.{weight_of}
-use Rattle.walks.proofs.Order.{≼-weight}
-use Rattle.walks.specs.Avoid.{occurs, Occurs, Avoids, ◌⊆◌}
-use Rattle.walks.proofs.Avoid.{Occurs→occurs}
+use Rattle.walks.specs.Avoid.{Occurs, Avoids}
 use Rattle.book.specs.Book.{is_path}
 use Rattle.walks.specs.Best.{Feasible, Best, None}
-use Rattle.walks.proofs.Best.{Best-mono, None-mono, Best-not-None}
 use Rattle.limits.specs.Limits.{most_paths}
-use Rattle.trial_rules.specs.Trials.{Report, passed, failed, State, standing, trials, refusal, is_named, has_room, stage_of, step, EachAccepted, named, failures, Begin, begun, state_after, accepted_of}
+use Rattle.trial_rules.specs.Trials.{Report, passed, failed, State, standing, trials, refusal, EachAccepted, failures, Begin, begun}
 use Rattle.trial_rules.specs.Lacking.{lacking, together}
 use Rattle.trial_rules.specs.Claim.{Claim}
 

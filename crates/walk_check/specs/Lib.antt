@@ -1,2 +1,2 @@
--- Meaning: Checking (which path the check names, and what it is refused for). Laws: CheckLaws, Laws.
+-- Meaning: Checking (which path the check names, and what it is refused for). The laws are in proofs/.
 pub mod Checking

@@ -1,5 +1,5 @@
--- Occurrence of a path in a walk, and avoidance of a set of paths.
-use Rattle.std.specs.Prelude.{Bool, true, false, not, ◌&&◌, ◌||◌, ◌⊎◌, ◌≡◌, refl, ℕ, ◌≤◌, T, eqb, length}
+-- The laws of what specs/Avoid.antt defines.
+use Rattle.std.specs.Prelude.{◌⊎◌, ◌≡◌, refl, ℕ, T, length}
 use mathlib.Core.List.{List, [], ◌∷◌, ◌++◌, append_assoc, append-nil, reverse, reverse-append, Memᴰ}
 use Rattle.std.proofs.Common.{inl, inr, sym, ap, ◌∙◌, arith, T_not, eqb→eq, length-append}
 use Rattle.std.proofs.Math.Dec.{not_T, eqb_refl}

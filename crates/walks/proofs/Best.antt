@@ -1,9 +1,9 @@
--- Feasible walks, the best of them, and when there is none.
-use Rattle.std.specs.Prelude.{List, [], ◌∷◌, ◌≡◌, refl, ℕ, ◌<◌, ◌≤◌, get_or}
+-- The laws of what specs/Best.antt defines.
+use Rattle.std.specs.Prelude.{List, [], ◌∷◌, ◌≡◌, refl, ℕ, ◌<◌, ◌≤◌}
 use Rattle.std.proofs.Common.{sym, inl, inr, arith}
 use Rattle.std.proofs.Math.Decide.{dec_lt}
 use Rattle.walks.specs.Graph.{Graph}
-use Rattle.walks.specs.Walk.{Walk, weight_of, hops}
+use Rattle.walks.specs.Walk.{weight_of, hops}
 use Rattle.walks.proofs.Walk.{Walk-single}
 use Rattle.walks.specs.Avoid.{Avoids, ◌⊆◌, Long}
 use Rattle.walks.proofs.Avoid.{Avoids-mono, Avoids-single}

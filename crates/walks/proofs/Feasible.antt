@@ -1,12 +1,11 @@
--- The test of a feasible walk.
-use Rattle.std.specs.Prelude.{Bool, ◌&&◌, List, ℕ, T, eqb, get_or}
+-- The laws of what specs/Feasible.antt defines.
+use Rattle.std.specs.Prelude.{List, ℕ, T, get_or}
 use Rattle.std.proofs.Math.Dec.{eqb→eq}
 use Rattle.std.specs.Float.Ieee.Fits.{eq→eqb}
 use Rattle.lists.specs.Test.{conj}
 use Rattle.walks.specs.Graph.{Graph}
-use Rattle.walks.specs.Walk.{is_walk, hops}
+use Rattle.walks.specs.Walk.{hops}
 use Rattle.walks.proofs.Walk.{is_walk→Walk, Walk→is_walk}
-use Rattle.walks.specs.Avoid.{avoids}
 use Rattle.walks.proofs.Avoid.{avoids→Avoids, Avoids→avoids}
 use Rattle.walks.specs.Best.{Feasible}
 use Rattle.walks.specs.Feasible.{is_feasible}

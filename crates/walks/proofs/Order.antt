@@ -1,6 +1,6 @@
--- The order in which walks are compared (01, 'Planning'): weight, then hops, then the first differing vertex.
+-- The laws of what specs/Order.antt defines.
 use Rattle.std.specs.Prelude.{List, [], ◌∷◌, ◌⊎◌, ◌≡◌, refl, ℕ, ◌<◌, ◌≤◌}
-use Rattle.std.proofs.Common.{inl, inr, ◌∙◌, arith}
+use Rattle.std.proofs.Common.{inl, inr, arith}
 use Rattle.std.proofs.Math.Decide.{dec_lt}
 use Rattle.walks.specs.Graph.{Graph}
 use Rattle.walks.specs.Walk.{weight_of, hops}

@@ -1,10 +1,7 @@
 -- Reflexive and transitive: a number that decides, with what decides behind it, and the order of lists.
-use Rattle.std.specs.Prelude.{List, [], ◌∷◌, ◌⊎◌, ◌≡◌, refl, ℕ, ◌<◌, ◌≤◌}
+use Rattle.std.specs.Prelude.{List, [], ◌∷◌, refl, ℕ}
 use Rattle.std.proofs.Common.{inl, inr, ◌∙◌, arith}
-use Rattle.std.proofs.Math.Decide.{dec_lt}
-use Rattle.walks.specs.Graph.{Graph}
-use Rattle.walks.specs.Walk.{weight_of, hops}
-use Rattle.walks.specs.Order.{Tiebreak, Lex, ◌≼⟨◌⟩◌}
+use Rattle.walks.specs.Order.{Tiebreak, Lex}
 
 pub Tiebreak-trans : {a b c : ℕ} {R S U : Type 0} → (R → S → U) → Tiebreak a b R → Tiebreak b c S → Tiebreak a c U
 Tiebreak-trans f (inl p) (inl q) = inl (omega arith)

@@ -1,5 +1,5 @@
--- Paths that name a vertex twice in succession. In a graph without loops such a path occurs in no walk, so that it forbids none.
-use mathlib.Core.List.{List, ◌++◌, Memᴰ}
+-- The laws of what specs/Stutter.antt defines.
+use mathlib.Core.List.{List, ◌++◌}
 use Rattle.std.specs.Prelude.{◌⊎◌, ◌≡◌, ℕ, suc, ◌+◌, ◌<◌, T, length, get_or}
 use Rattle.std.proofs.Common.{⊎_elim, sym, ap, subst₂, ◌∙◌, arith, length-append, get_or-append-add}
 use Rattle.std.proofs.Math.ListN.{get_or-append}

@@ -1,5 +1,5 @@
--- Walks in a weighted digraph.
-use Rattle.std.specs.Prelude.{Bool, true, false, ◌&&◌, List, [], ◌∷◌, ◌≡◌, refl, ℕ, zero, suc, ◌+◌, ◌*◌, ◌<◌, ◌≤◌, T, ltb, length, get_or}
+-- The laws of what specs/Walk.antt defines.
+use Rattle.std.specs.Prelude.{true, List, [], ◌∷◌, ◌≡◌, refl, ℕ, zero, suc, ◌*◌, ◌<◌, ◌≤◌, T, ltb, length, get_or}
 use Rattle.std.proofs.Common.{arith, suc-mul, ltb→lt, lt→ltb}
 use Rattle.std.specs.Float.Ieee.Fits.{and_i}
 use Rattle.lists.specs.Test.{conj}

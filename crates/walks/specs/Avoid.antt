@@ -1,10 +1,7 @@
 -- Occurrence of a path in a walk, and avoidance of a set of paths.
-use Rattle.std.specs.Prelude.{Bool, true, false, not, ◌&&◌, ◌||◌, ◌⊎◌, ◌≡◌, refl, ℕ, ◌≤◌, T, eqb, length}
-use mathlib.Core.List.{List, [], ◌∷◌, ◌++◌, append_assoc, append-nil, reverse, reverse-append, Memᴰ}
-use Rattle.std.proofs.Common.{inl, inr, sym, ap, ◌∙◌, arith, T_not, eqb→eq, length-append}
-use Rattle.std.proofs.Math.Dec.{not_T, eqb_refl}
-use Rattle.std.proofs.Math.Facts.{or_yes}
-use Rattle.lists.specs.Test.{conj, any, any→some, some→any, or_left, or_right}
+use Rattle.std.specs.Prelude.{Bool, true, false, not, ◌&&◌, ◌||◌, ◌≡◌, ℕ, ◌≤◌, eqb, length}
+use mathlib.Core.List.{List, [], ◌∷◌, ◌++◌, Memᴰ}
+use Rattle.lists.specs.Test.{any}
 
 -- r stands in w as consecutive vertices.
 pub record Occurs (r w : List ℕ) : Type 0 where

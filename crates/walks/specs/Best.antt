@@ -1,10 +1,8 @@
 -- Feasible walks, the best of them, and when there is none.
-use Rattle.std.specs.Prelude.{List, [], ◌∷◌, ◌≡◌, refl, ℕ, ◌<◌, ◌≤◌, get_or}
-use Rattle.std.proofs.Common.{sym, inl, inr, arith}
-use Rattle.std.proofs.Math.Decide.{dec_lt}
+use Rattle.std.specs.Prelude.{List, ◌≡◌, ℕ, get_or}
 use Rattle.walks.specs.Graph.{Graph}
-use Rattle.walks.specs.Walk.{Walk, weight_of, hops}
-use Rattle.walks.specs.Avoid.{Avoids, ◌⊆◌, Long}
+use Rattle.walks.specs.Walk.{Walk, hops}
+use Rattle.walks.specs.Avoid.{Avoids}
 use Rattle.walks.specs.Order.{◌≼⟨◌⟩◌}
 
 -- A walk from s to t that avoids each path of F (01: a line-up from start to end that avoids every known run).

@@ -1,4 +1,4 @@
--- Meaning: Graph, Walk, Avoid, Order and Best, each followed by its laws; Weights (a graph as a table). Laws: Feasible (the test of a feasible walk), Stutter (paths that occur in no walk).
+-- Meaning: Graph, Walk, Avoid, Order and Best; Weights (a graph as a table), Feasible (the test of a feasible walk), Stutter (paths that occur in no walk). The laws are in proofs/.
 pub mod Graph
 pub mod Weights
 pub mod Walk

@@ -1,7 +1,5 @@
 -- The order in which walks are compared (01, 'Planning'): weight, then hops, then the first differing vertex.
-use Rattle.std.specs.Prelude.{List, [], ◌∷◌, ◌⊎◌, ◌≡◌, refl, ℕ, ◌<◌, ◌≤◌}
-use Rattle.std.proofs.Common.{inl, inr, ◌∙◌, arith}
-use Rattle.std.proofs.Math.Decide.{dec_lt}
+use Rattle.std.specs.Prelude.{List, [], ◌∷◌, ◌⊎◌, ◌≡◌, ℕ, ◌<◌, ◌≤◌}
 use Rattle.walks.specs.Graph.{Graph}
 use Rattle.walks.specs.Walk.{weight_of, hops}
 

@@ -1,12 +1,7 @@
 -- Paths that name a vertex twice in succession. In a graph without loops such a path occurs in no walk, so that it forbids none.
-use mathlib.Core.List.{List, ◌++◌, Memᴰ}
-use Rattle.std.specs.Prelude.{◌⊎◌, ◌≡◌, ℕ, suc, ◌+◌, ◌<◌, T, length, get_or}
-use Rattle.std.proofs.Common.{⊎_elim, sym, ap, subst₂, ◌∙◌, arith, length-append, get_or-append-add}
-use Rattle.std.proofs.Math.ListN.{get_or-append}
+use mathlib.Core.List.{List, Memᴰ}
+use Rattle.std.specs.Prelude.{◌⊎◌, ◌≡◌, ℕ, ◌+◌, ◌<◌, T, length, get_or}
 use Rattle.walks.specs.Graph.{Graph, is_arc}
-use Rattle.walks.specs.Walk.{Walk}
-use Rattle.walks.specs.Avoid.{Occurs}
-use Rattle.walks.specs.Best.{NoStricter}
 
 -- One vertex stands in r at two places, the second next to the first.
 pub record Stutters (r : List ℕ) : Type 0 where

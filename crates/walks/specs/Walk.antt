@@ -1,8 +1,5 @@
 -- Walks in a weighted digraph.
-use Rattle.std.specs.Prelude.{Bool, true, false, ◌&&◌, List, [], ◌∷◌, ◌≡◌, refl, ℕ, zero, suc, ◌+◌, ◌*◌, ◌<◌, ◌≤◌, T, ltb, length, get_or}
-use Rattle.std.proofs.Common.{arith, suc-mul, ltb→lt, lt→ltb}
-use Rattle.std.specs.Float.Ieee.Fits.{and_i}
-use Rattle.lists.specs.Test.{conj}
+use Rattle.std.specs.Prelude.{Bool, true, false, ◌&&◌, List, [], ◌∷◌, ℕ, suc, ◌+◌, ◌<◌, T, ltb, length, get_or}
 use Rattle.walks.specs.Graph.{Graph, is_arc, arc_weight}
 
 -- A walk (01: line-up): one or more vertices below the count, each neighbouring pair an arc. Vertices may repeat.

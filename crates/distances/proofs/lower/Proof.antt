@@ -1,7 +1,6 @@
 -- `distances::lower` meets its contract. The invariant is `Lowering`: the edges of the chain from i on are relaxed. Assumes nothing.
 use Prim.Native.Nat.{suc, ◌<◌, ◌-◌}
 use mathlib.Core.Path.{◌≡◌, subst}
-use mathlib.Core.Logic.{⊎_elim}
 use native.Mathlib.Omega.{arith}
 use lib.ListN.{length}
 use Rattle.distances.specs.Table.{at}

@@ -2,7 +2,6 @@
 use Prim.Native.Nat.{◌≤◌, ◌<◌, ◌-◌, ◌+◌}
 use mathlib.Core.Path.{◌≡◌, ap}
 use mathlib.Core.List.{◌∷◌}
-use mathlib.Core.Logic.{⊎_elim}
 use native.Mathlib.Numerals.{add-one}
 use native.Mathlib.Omega.{arith}
 use lib.ListN.{length, drop, get_or, length-set, drop_of_length-le}

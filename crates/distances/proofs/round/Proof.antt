@@ -1,7 +1,6 @@
 -- `distances::round` meets its contract. The invariant is `Rounding`: the states below h were looked at. Assumes nothing.
 use Prim.Native.Nat.{◌≤◌, ◌-◌}
 use mathlib.Core.Path.{sym, ◌∙◌}
-use mathlib.Core.Logic.{⊎_elim}
 use native.Mathlib.Omega.{arith}
 use lib.ListN.{length}
 use Rattle.distances.specs.Edge.{edges}

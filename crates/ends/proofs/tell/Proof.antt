@@ -1,6 +1,5 @@
 -- `ends::tell` meets its contract. The invariant is `Telling`: the numbers of the vertices below v are written. Assumes nothing.
 use mathlib.Core.List.{[], ◌∷◌}
-use mathlib.Core.Logic.{⊎_elim}
 use mathlib.Core.Path.{◌≡◌}
 use Prim.Native.Nat.{◌≤◌, ◌-◌}
 use native.Mathlib.Omega.{arith}

@@ -1,7 +1,6 @@
 -- `routes::usable` meets its contract. The invariant is `Choosing`: the word has the usable vertices below v. Assumes nothing.
 use Prim.Native.Nat.{◌≤◌, ◌<◌, ◌-◌}
 use mathlib.Core.Path.{◌≡◌, sym, ◌∙◌}
-use mathlib.Core.Logic.{⊎_elim}
 use native.Mathlib.Omega.{arith}
 use lib.ListN.{length, get_or}
 use Rattle.distances.specs.Table.{at, inf}

@@ -1,9 +1,7 @@
 -- At each turn of each loop, the answer for the whole is the answer for what is left.
-use Rattle.std.proofs.Common.{ℕ, ◌≡◌, ◌+◌, ◌-◌, ◌*◌, ◌≤◌, ◌<◌, length, get_or, List, sym, ◌∙◌, arith}
-use borrow.Author.Tests.{leb-false}
-use Rattle.book.specs.Book.{All}
-use Rattle.limits.specs.Limits.{entry_size, longest_path}
-use Rattle.rules.specs.Area.{blocks, spelled}
+use Rattle.std.proofs.Common.{◌≡◌, ◌+◌, ◌-◌, ◌*◌, ◌≤◌, length, get_or, sym, ◌∙◌, arith}
+use Rattle.limits.specs.Limits.{entry_size}
+use Rattle.rules.specs.Area.{spelled}
 use Rattle.rules.proofs.Parts.{parts_past, parts-differ, parts_next}
 use Rattle.walk_check.specs.Checking.{some_ends}
 use Rattle.walk_check.proofs.Searched.{first-here, first-later, ends_past, ends-here, ends-later, lengths_past, lengths_done, paths-start, paths_past, other_length, differs, stands}

@@ -1,5 +1,5 @@
 -- What each loop keeps: the answer for the whole is the answer for what is left.
-use Rattle.std.specs.Prelude.{ℕ, ◌+◌, ◌-◌, ◌*◌, ◌≤◌, ◌≡◌, ◌&&◌, length, take, drop}
+use Rattle.std.specs.Prelude.{◌+◌, ◌-◌, ◌*◌, ◌≤◌, ◌≡◌, ◌&&◌, length, take, drop}
 use lib.Dec.{eqb}
 use Rattle.lists.specs.Test.{any}
 use Rattle.walks.specs.Avoid.{same}
