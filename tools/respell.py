@@ -24,8 +24,10 @@ def table():
 
 def words(text, names, prose=False):
     def one(m):
-        w = DOTTED.sub(r"\1-", m[0])
-        return w if prose and "-" in w else names.get(w, w)
+        w = m[0]
+        if prose and "-" in w:
+            return w
+        return DOTTED.sub(r"\1-", "·".join(names.get(part, part) for part in w.split("·")))
 
     return WORD.sub(one, text)
 
