@@ -119,7 +119,7 @@ refusals s x =
           exactly ((conditions (reading s)).check area count w) (check-iff (refusal_of (reading s) (check_tests area count w)) (spelled count area) w x);
       plan = λ paths count start end old r new p.
           exactly ((conditions (reading s)).plan paths count start end old) (tells-plan (reading s) paths count start end old r new p).defined;
-      plan_list_lem = λ n xs paths count start end old r new p.
+      plan_list = λ n xs paths count start end old r new p.
           exactly ((conditions (listing n xs)).plan paths count start end old) (tells-plan (listing n xs) paths count start end old r new p).defined;
       reach = λ paths count start table. exactly ((conditions (reading s)).reach paths count start table) (tells-reach paths count start table).defined;
       begin = λ flags start end paths walk.

@@ -107,7 +107,7 @@ pub record Refusals (s : List ℕ) (x : Refusal) : Type 0 where
       → Exactly (reading s) (check_tests area count w) (check_conditions area count w) x (checking s area count w ≡ Checked.Refused x)
   pub plan : (paths : List ℕ) (count start end : ℕ) (old : List ℕ) (r : Outcome) (new : List ℕ) → Planning s paths count start end old r new
       → Exactly (reading s) (plan_tests paths count start end old) (plan_conditions paths count start end old) x (r ≡ Outcome.Refused x)
-  pub plan_list_lem : (n : ℕ) (xs : List Item) (paths : List ℕ) (count start end : ℕ) (old : List ℕ) (r : Outcome) (new : List ℕ)
+  pub plan_list : (n : ℕ) (xs : List Item) (paths : List ℕ) (count start end : ℕ) (old : List ℕ) (r : Outcome) (new : List ℕ)
       → PlanningOf (listing n xs) paths count start end old r new
       → Exactly (listing n xs) (plan_tests paths count start end old) (plan_conditions paths count start end old) x (r ≡ Outcome.Refused x)
   pub reach : (paths : List ℕ) (count start : ℕ) (table : List ℕ)
