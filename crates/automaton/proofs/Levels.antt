@@ -14,7 +14,7 @@ use Rattle.states.specs.Automaton.{go, fail, blocked}
 use Rattle.states.proofs.Automaton.{fail_single, fail_shorter, go-cases, blocked_nil}
 use Rattle.lists.specs.Distinct.{Distinct}
 use Rattle.limits.specs.Limits.{most_paths}
-use Rattle.states.specs.Count.{states_of, most_states}
+use Rattle.states.specs.Count.{states_of}
 use Rattle.automaton.specs.Built.{Numbers, bit, flag, Built}
 use Rattle.automaton.specs.Rows.{Copied}
 use Rattle.automaton.specs.Area.{Bounded}
@@ -44,6 +44,19 @@ module _ {F : List (List ℕ)} {n l i first done m : ℕ} {steps blockeds latest
       by k a (yes b) = omega (arith, p.numbered.low k b)
       by k a (no b) = omega (arith, p.numbered.high k (omega arith) a)
 
+  -- The failure link of a state of l + 1 vertices is to one of fewer.
+  pub link-low : (q : ℕ) → first ≤ q → q < m → get_or fails q 0 < first
+  link-low q a b = cases (dec_lt (get_or fails q 0) first)
+    where
+      link : Numbers p.words (get_or fails q 0) (fail F (get_or p.words q []))
+      link = p.links q a b
+
+      cases : Dec (get_or fails q 0 < first) → get_or fails q 0 < first
+      cases (yes h) = h
+      cases (no h) =
+          absurd
+          (omega (arith, p.numbered.high (get_or fails q 0) (omega arith) (omega (arith, link.below, p.numbered.count)), ap length link.is, fail-short F (get_or p.words q []) l (p.numbered.high q a b)))
+
   -- All paths have been taken at this level.
   module _ (taken : length F ≤ i) where
     all-next : (j k : ℕ) → j < length F → 1 ≤ k → k ≤ suc l → k < length (get_or F j []) → Memᴰ (front (get_or F j []) k) p.words
@@ -63,18 +76,11 @@ module _ {F : List (List ℕ)} {n l i first done m : ℕ} {steps blockeds latest
       link : Numbers p.words (get_or fails done 0) (fail F (get_or p.words done []))
       link = p.links done p.ordered.0 here
 
-      link-low : get_or fails done 0 < first
-      link-low = cases (dec_lt (get_or fails done 0) first)
-        where
-          cases : Dec (get_or fails done 0 < first) → get_or fails done 0 < first
-          cases (yes h) = h
-          cases (no h) = absurd (omega (arith, p.numbered.high (get_or fails done 0) (omega arith) (omega (arith, link.below, p.numbered.count)), ap length link.is, f-short))
-
-      pub row_room : (get_or fails done 0 < first) × (first ≤ done) × (m ≤ most_states) × (n ≤ 64) × (m * 64 ≤ length steps) × (m ≤ length blockeds) × (m ≤ length fails)
-      row_room = (link-low, p.ordered.0, few p, p.numbered.bounded.few-vertices, omega (arith, p.room.of_steps, counted p), omega (arith, p.room.of_blockeds, counted p), omega (arith, p.room.of-fails, counted p))
+      low : get_or fails done 0 < first
+      low = link-low done p.ordered.0 here
 
       -- A new state starts with the row and the blocked bits of its failure link.
-      row_copied : {new : List ℕ} → Copied steps new (get_or fails done 0 * 64) (done * 64) n
+      pub row_copied : {new : List ℕ} → Copied steps new (get_or fails done 0 * 64) (done * 64) n
           → Progress F n l i first (done + 1) m new (set blockeds done (get_or blockeds (get_or fails done 0) 0)) latests fails current
       row_copied {new} c = record {
         words = p.words;
@@ -103,7 +109,7 @@ module _ {F : List (List ℕ)} {n l i first done m : ℕ} {steps blockeds latest
           row x h =
               row_settled F p.words (fail F w) x (get_or steps (f * 64 + x) 0) (λ q a. (p.numbered.only q a).0)
               (λ s. complete F n (suc l) p.words p.numbered.singles all-next (x ∷ fail F w) s h (omega (arith, f-short)))
-              (subst (λ z. Row F p.words z x (get_or steps (f * 64 + x) 0)) link.is (p.rows f x (omega (arith, link-low, p.ordered)) h))
+              (subst (λ z. Row F p.words z x (get_or steps (f * 64 + x) 0)) link.is (p.rows f x (omega (arith, low, p.ordered)) h))
 
           rows : (u x : ℕ) → u < done + 1 → x < n → Dec (u ≡ done) → Row F p.words (get_or p.words u []) x (get_or new (u * 64 + x) 0)
           rows u x a b (yes e) =
@@ -124,13 +130,9 @@ module _ {F : List (List ℕ)} {n l i first done m : ℕ} {steps blockeds latest
           at-state u x a (yes e) =
               subst (λ z. BitKnown F l i (get_or p.words z []) x (bit (get_or (set blockeds done y) z 0) x)) (sym e)
               (subst (λ z. BitKnown F l i w x (bit z x)) (sym (get_or-set_same blockeds done y 0 (omega (arith, p.room.of_blockeds, counted p))))
-              (known x (bit y x) (subst (λ z. BitKnown F l i z x (bit y x)) link.is (p.bits f x (omega (arith, link-low, p.ordered))))))
+              (known x (bit y x) (subst (λ z. BitKnown F l i z x (bit y x)) link.is (p.bits f x (omega (arith, low, p.ordered))))))
           at-state u x a (no e) =
               subst (λ z. BitKnown F l i (get_or p.words u []) x (bit z x)) (sym (get_or-set_other blockeds done u y 0 e)) (p.bits u x (omega arith))
-
-      pub row-copied-at : {f : ℕ} → f ≡ get_or fails done 0 → {new : List ℕ} → Copied steps new (f * 64) (done * 64) n
-          → Progress F n l i first (done + 1) m new (set blockeds done (get_or blockeds f 0)) latests fails current
-      row-copied-at e c = rw e (row_copied (rw e at c))
 
     -- All rows are there: the next level begins.
     pub next_level : done ≡ m → Progress F n (suc l) 0 m m m steps blockeds latests fails current

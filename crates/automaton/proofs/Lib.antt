@@ -2,6 +2,5 @@ pub mod Prefixes
 pub mod Bits
 pub mod Turns
 pub mod Levels
-pub mod Fills
 pub mod Entry
 pub mod Whole

@@ -2,6 +2,13 @@
 use Rattle.std.specs.Prelude.{List, ◌≡◌, ℕ, ◌+◌, ◌*◌, ◌<◌, length, get_or}
 use Rattle.limits.specs.Limits.{most_paths, entry_size, most_vertices}
 
+-- The tables have room for s states and t steps.
+pub record Sized (s t : ℕ) (steps blockeds latests fails : List ℕ) : Type 0 where
+  pub of_steps : length steps ≡ t
+  pub of_blockeds : length blockeds ≡ s
+  pub of_latests : length latests ≡ s
+  pub of_fails : length fails ≡ s
+
 -- 0, 1, … stand from `at` on, and what is before is as it was.
 pub record Filled (old new : List ℕ) (from n : ℕ) : Type 0 where
   pub size : length new ≡ length old

@@ -5,7 +5,7 @@ pub mod Lowering
 pub mod Rounding
 pub mod Bellman
 pub mod Chain
-pub mod Columns
+pub mod Edges
 pub mod Ends
 pub mod Pack
 pub mod PassLaws

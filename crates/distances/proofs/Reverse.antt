@@ -1,5 +1,5 @@
 -- The laws of what specs/Reverse.antt defines.
-use Rattle.std.specs.Prelude.{ℕ, ◌+◌, ◌≡◌, refl, List, [], ◌∷◌, ◌++◌, map}
+use Rattle.std.specs.Prelude.{ℕ, ◌+◌, ◌≡◌, refl, List, [], ◌∷◌, ◌++◌}
 use Rattle.std.proofs.Common.{sym, ap, ◌∙◌, subst, arith}
 use mathlib.Core.List.Memᴰ
 use Rattle.distances.specs.Edge.{Edge, ◌∈◌, Path, total, cost, Within}

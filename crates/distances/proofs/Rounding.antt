@@ -1,15 +1,15 @@
 -- What `round` has done when it is at state h, and what one turn of its loop does.
 use Prim.Native.Nat.{ℕ, ◌+◌, ◌<◌, ◌≤◌}
-use mathlib.Core.Path.{◌≡◌, refl, ◌∙◌}
-use mathlib.Core.Bool.{Bool, true, false, true≢false, false≢true}
+use mathlib.Core.Path.{◌≡◌, ◌∙◌}
+use mathlib.Core.Bool.{Bool, true, false, true≢false}
 use mathlib.Core.List.{List}
 use mathlib.Core.Logic.{by_cases}
 use native.Mathlib.Omega.{arith}
-use native.Mathlib.Decide.{ℕ_discrete, dec_lt}
-use lib.ListN.{length, set, length-set, get_or-eq_default}
+use native.Mathlib.Decide.{ℕ_discrete}
+use lib.ListN.{length, set, length-set}
 use Rattle.distances.specs.Edge.{Edge}
 use Rattle.distances.specs.Table.{at}
-use Rattle.distances.specs.Settle.{Lowered, Progress, Rounded, sum}
+use Rattle.distances.specs.Settle.{Lowered, Progress, sum}
 use Rattle.distances.proofs.SettleLaws.{sum-set, progress-next}
 
 module _ (es : List Edge) (t₀ seen₀ : List ℕ) where
@@ -21,17 +21,6 @@ module _ (es : List Edge) (t₀ seen₀ : List ℕ) where
     pub sum_le : sum seen ≤ sum seen₀
     pub none_left : taken ≡ false → (q : ℕ) → q < h → at seen q ≤ at t q
     pub falls : taken ≡ true → sum seen < sum seen₀
-
-  pub rounding_none : length seen₀ ≡ length t₀ → Rounding 0 t₀ seen₀ false
-  rounding_none len = record {
-    same_length = refl;
-    seen_length = len;
-    not-raised = λ q. omega arith;
-    progress = λ base p. p;
-    sum_le = omega arith;
-    none_left = λ e q l. absurd (omega arith);
-    falls = λ e. absurd (false≢true e);
-  }
 
   module _ {h : ℕ} {t seen : List ℕ} {taken : Bool} (r : Rounding h t seen taken) where
     pub rounding_take : {t' : List ℕ} → at t h < at seen h → Lowered es h t t' → Rounding (h + 1) t' (set seen h (at t h)) true
@@ -53,12 +42,5 @@ module _ (es : List Edge) (t₀ seen₀ : List ℕ) where
       progress = r.progress;
       sum_le = r.sum_le;
       none_left = λ e q l. by_cases (ℕ_discrete q h) (λ same. rw same more) (λ other. r.none_left e q (omega arith));
-      falls = r.falls;
-    }
-
-    pub rounding_all : length t ≤ h → Rounded es t₀ seen₀ t seen taken
-    rounding_all end = record {
-      progress = r.progress;
-      none_left = λ e q. by_cases (dec_lt q h) (r.none_left e q) (λ out. omega (arith, get_or-eq_default seen 0 {n = q} (omega (arith, r.same_length, r.seen_length))));
       falls = r.falls;
     }

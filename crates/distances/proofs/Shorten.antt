@@ -5,7 +5,7 @@ use mathlib.Core.List.{List, [], ◌∷◌, Memᴰ}
 use Rattle.std.proofs.Common.{⊎_elim, arith}
 use Rattle.std.proofs.Math.Logic.{by_cases}
 use Rattle.std.proofs.lemmas.List.{length-map}
-use Rattle.distances.specs.Edge.{Edge, Path, cost, Within}
+use Rattle.distances.specs.Edge.{Edge, Path, Within}
 use Rattle.std.proofs.Math.Decide.{ℕ_discrete}
 use Rattle.lists.specs.Distinct.{Distinct, mem?}
 use Rattle.lists.specs.Pigeonhole.{pigeonhole}

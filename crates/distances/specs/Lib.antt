@@ -7,7 +7,6 @@ pub mod Shorten
 pub mod Reverse
 pub mod Ends
 pub mod Pack
-pub mod Columns
 pub mod Ready
 pub mod Chain
 pub mod Settle

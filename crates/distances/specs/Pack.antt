@@ -1,7 +1,7 @@
 -- A weight and a number of edges packed into one number, so that one comparison orders by weight, then by edges.
 use Rattle.std.specs.Prelude.{ℕ, ◌+◌, ◌*◌, ◌<◌, ◌≤◌, ◌≡◌, List, ◌⊎◌, length}
 use Rattle.limits.specs.Limits.{heaviest}
-use Rattle.distances.specs.Edge.{Edge, ◌∈◌, Path, total, cost, Within}
+use Rattle.distances.specs.Edge.{Edge, ◌∈◌, Path, total, Within}
 use Rattle.distances.specs.Table.{at, inf}
 
 -- a packed path has fewer edges

@@ -1,6 +1,6 @@
 -- A pass goes from the least within k edges to the least within one more, each attained by a path.
 use Rattle.std.specs.Prelude.{ℕ, ◌+◌, ◌≡◌, List}
-use Rattle.distances.specs.Edge.{Edge, ◌∈◌, cost}
+use Rattle.distances.specs.Edge.{Edge, ◌∈◌}
 use Rattle.distances.specs.Table.{at}
 
 -- the entry v at q is that of an edge of es from q

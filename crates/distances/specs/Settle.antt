@@ -1,7 +1,7 @@
 -- Distances worked out state by state: a state whose entry is below what its edges have seen is taken, and the edges into it are relaxed.
 -- Where no such state is left the table is settled, and is the one that the passes reach.
 use Rattle.std.specs.Prelude.{ℕ, ◌+◌, ◌<◌, ◌≤◌, ◌≡◌, Bool, true, false, List, [], ◌∷◌, ◌⊎◌, length}
-use Rattle.distances.specs.Edge.{Edge, ◌∈◌, cost}
+use Rattle.distances.specs.Edge.{Edge, ◌∈◌}
 use Rattle.distances.specs.Table.{at, Attained}
 use Rattle.distances.specs.Pass.{FromEdge}
 

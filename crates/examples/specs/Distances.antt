@@ -1,13 +1,19 @@
 -- A worked example, by computation: five states, the target is state 3, and no edge leaves state 4.
 -- From state 0 the ways 0 1 2 3 and 0 2 3 weigh 3 each, and the second has fewer edges.
 use Rattle.std.specs.Prelude.{ℕ, ◌≡◌, refl, List, [], ◌∷◌}
-use Rattle.distances.specs.Edge.{Edge, edges}
+use Rattle.distances.specs.Edge.{Edge}
 use Rattle.distances.specs.Table.{Least, inf, pass, passes}
 use Rattle.examples.specs.LeastTable.{certificate}
 use Rattle.distances.specs.Pack.{pack}
 
 abbrev graph : List Edge
-graph = edges (0 ∷ 1 ∷ 2 ∷ 0 ∷ 3 ∷ []) (1 ∷ 2 ∷ 3 ∷ 2 ∷ 4 ∷ []) (pack 1 1 ∷ pack 1 1 ∷ pack 1 1 ∷ pack 2 1 ∷ pack 7 1 ∷ [])
+graph =
+    record { tail = 0; head = 1; cost = pack 1 1 }
+    ∷ record { tail = 1; head = 2; cost = pack 1 1 }
+    ∷ record { tail = 2; head = 3; cost = pack 1 1 }
+    ∷ record { tail = 0; head = 2; cost = pack 2 1 }
+    ∷ record { tail = 3; head = 4; cost = pack 7 1 }
+    ∷ []
 
 abbrev base : List ℕ
 base = inf ∷ inf ∷ inf ∷ 0 ∷ inf ∷ []

@@ -1,53 +1,40 @@
 -- The work tables of the whole search, and what building the automaton and the distances ask of them.
-use Rattle.std.specs.Prelude.{Bool, List, ◌++◌, ◌≡◌, refl, ℕ, ◌*◌, ◌≤◌, length, take, drop, replicate}
+use Rattle.std.specs.Prelude.{Bool, List, ◌++◌, ◌≡◌, ℕ, ◌*◌, ◌<◌, ◌≤◌, length, take, drop, replicate}
 use Rattle.std.proofs.Math.Logic.{by_cases}
 use Rattle.std.proofs.Common.{sym, ap, ◌∙◌, arith, length-take-le, take_at}
 use Rattle.std.proofs.Math.Decide.{dec_lt}
 use Rattle.std.proofs.lemmas.List.{length-replicate, get_or-replicate}
 use Rattle.std.proofs.Math.ListN.{get_or-eq_default}
-use Rattle.std.proofs.Math.Seq.{length_front}
 use Rattle.limits.specs.Limits.{most_vertices}
 use Rattle.walks.specs.Graph.{Graph}
 use Rattle.walks.specs.Weights.{Weights}
-use Rattle.distances.specs.Table.{inf, passes}
+use Rattle.distances.specs.Edge.{Edge}
+use Rattle.distances.specs.Table.{at, inf, passes}
 use Rattle.automaton.specs.Area.{Spells}
 use Rattle.states.specs.Count.{states_of}
 use Rattle.automaton.specs.Built.{Built}
-use Rattle.automaton.specs.Progress.{Room}
-use Rattle.product.specs.Scratch.{EdgeRoom, room_less, room-kept}
+use Rattle.product.specs.Scratch.{EdgeRoom}
 use Rattle.product.specs.Product.{state_edges}
 use Rattle.product.specs.Base.{base, directed}
 use Rattle.routes.specs.Plan.{Prepared, Measured}
 
--- Room for `most` states everywhere: in the automaton's tables, in those for the edges, and in the table of distances.
-pub record Work (most : ℕ) (steps blockeds latests tails heads costs first next seen table : List ℕ) : Type 0 where
-  pub automaton : Room most steps blockeds latests tails
-  pub edges : EdgeRoom most tails heads costs first next seen
+-- Room for `most` states in work tables for s states and t steps: in the automaton's tables and those for the edges, and in the table of distances; and blank tables for the chains of edges and for the entries seen.
+pub record WorkRoom (most s t : ℕ) (first seen table : List ℕ) : Type 0 where
+  pub states_fit : most ≤ s
+  pub steps_fit : most * most_vertices ≤ t
   pub entries : most ≤ length table
+  pub first-blank : (h : ℕ) → at first h ≡ 0
+  pub seen_blank : (q : ℕ) → q < length seen → at seen q ≡ inf
 
--- Arrays for k states, as they are made.
-pub blank_work : (most k : ℕ) → most ≤ k
-    → Work most (replicate (k * most_vertices) 0) (replicate k 0) (replicate k 0) (replicate (k * most_vertices) 0) (replicate (k * most_vertices) 0) (replicate (k * most_vertices) 0) (replicate k 0) (replicate (k * most_vertices) 0) (replicate k inf) (replicate k 0)
-blank_work most k h = record {
-  automaton = record { of_steps = long; of_blockeds = short 0; of-latests = short 0; of-fails = omega (arith, long) };
-  edges = record {
-    tails_room = long;
-    heads_room = long;
-    costs_room = long;
-    next-room = long;
-    first-room = short 0;
-    seen_room = short inf;
-    first-blank = λ q. by_cases (dec_lt q k) (λ l. get_or-replicate k q 0 0 l) (λ l. get_or-eq_default (replicate k 0) 0 (omega (arith, length-replicate {A = ℕ} k 0)));
-    seen_blank = λ q l. get_or-replicate k q inf 0 (omega (arith, length-replicate k inf));
-  };
-  entries = short 0;
+-- Arrays for s states, as they are made.
+pub blank_work : (most s t : ℕ) → most ≤ s → t ≡ s * most_vertices → WorkRoom most s t (replicate s 0) (replicate s inf) (replicate s 0)
+blank_work most s t h square = record {
+  states_fit = h;
+  steps_fit = omega arith;
+  entries = rw length-replicate h;
+  first-blank = λ q. by_cases (dec_lt q s) (λ l. get_or-replicate s q 0 0 l) (λ l. get_or-eq_default (replicate s 0) 0 (omega (arith, length-replicate {A = ℕ} s 0)));
+  seen_blank = λ q l. get_or-replicate s q inf 0 (omega (arith, length-replicate s inf));
 }
-  where
-    long : most * most_vertices ≤ length {A = ℕ} (replicate (k * most_vertices) 0)
-    long = rw length-replicate (omega arith)
-
-    short : (x : ℕ) → most ≤ length (replicate k x)
-    short x = rw length-replicate h
 
 -- The tables that were built, with the front of a table for the distances of their states.
 module _ {paths : List ℕ} {count vertices m : ℕ} {F : List (List ℕ)} {steps blockeds latests : List ℕ} (spells : Spells paths count F) (built : Built F vertices m steps blockeds latests) where
@@ -61,15 +48,19 @@ module _ {paths : List ℕ} {count vertices m : ℕ} {F : List (List ℕ)} {step
     pub front-prepared : {g : Graph} {weights : List ℕ} → g.count ≡ vertices → Weights g weights → Prepared g F vertices (length (take m table)) weights steps blockeds latests
     front-prepared count-is weighed = rw front_length (record { count-is = count-is; built = built; table = weighed })
 
-    pub front-edges : {tails tails' heads costs first next seen : List ℕ} → EdgeRoom (states_of vertices count) tails heads costs first next seen → length tails' ≡ length tails
-        → EdgeRoom (length (take m table)) tails' heads costs first next seen
-    front-edges r kept = rw front_length (room_less built-counted (room-kept r kept refl refl))
+    pub front-edges : {es : List Edge} {first next seen : List ℕ} (s t : ℕ) → WorkRoom (states_of vertices count) s t first seen table → length es ≡ t → length next ≡ t → length first ≡ s → length seen ≡ s
+        → EdgeRoom (length (take m table)) es first next seen
+    front-edges s t r edges_length next_length first_length seen_length = rw front_length (record {
+      edges_room = omega (arith, built-counted, r.steps_fit);
+      next-room = omega (arith, built-counted, r.steps_fit);
+      first-room = omega (arith, built-counted, r.states_fit);
+      seen_room = omega (arith, built-counted, r.states_fit);
+      first-blank = r.first-blank;
+      seen_blank = r.seen_blank;
+    })
 
     -- The front after the distances x have come back to it.
     module _ (x : List ℕ) (same : length x ≡ length (take m table)) where
-      pub back-length : length (x ++ drop m table) ≡ length table
-      back-length = length_front table x m same
-
       back-front : take m (x ++ drop m table) ≡ x
       back-front = take_at x (drop m table) m (same ∙ front_length)
 

@@ -1,60 +1,57 @@
-// The distances of the automaton's states, from a graph's table of weights and forbidden paths as bytes.
+// The distances of the automaton's states, from a graph's arcs and forbidden paths.
 #![tactic(auto)]
 
-ghost use Rattle.std.specs.Prelude.{◌≡◌, ◌≤◌, length, take};
+ghost use Rattle.std.specs.Prelude.{◌≡◌, ◌≤◌, take};
 ghost use Rattle.walks.specs.Graph.{Graph};
 ghost use Rattle.walks.specs.Weights.{Weights};
 ghost use Rattle.automaton.specs.Area.{Given};
 ghost use Rattle.states.specs.Count.{states_of};
+ghost use Rattle.product.specs.Base.{is_towards, vertex_of};
 ghost use Rattle.routes.specs.Plan.{MeasuredAll};
-ghost use Rattle.measuring.specs.Work.{Work};
+ghost use Rattle.measuring.specs.Work.{WorkRoom};
 
-use automaton::build;
-use limits::PAIRS;
-use product::distances;
+use automaton::Automaton;
+use distances::Edge;
+use product::{Goal, Product};
+use walks::{ArcTable, PathArea};
 
-// Builds the automaton, and works out the distances of its states to a vertex, or from it, in the front of the table. Answers how
-// many states there are. The failure links stand in the column of the tails, which is written later.
-pub fn measure(
-    weights: &[u32; PAIRS],
-    vertices: usize,
-    paths: &[u8],
-    count: usize,
-    towards: bool,
-    vertex: u8,
-    steps: &mut [u16],
-    blocked: &mut [u64],
-    latest: &mut [u8],
-    tails: &mut [u16],
-    heads: &mut [u16],
-    costs: &mut [u32],
-    first: &mut [u32],
-    next: &mut [u32],
-    seen: &mut [u64],
-    table: &mut [u64],
-) -> usize
-    requires given { Given paths.now count vertices }
-    requires count_value { (g : Graph) × (g.count ≡ vertices) × Weights g weights.now }
-    requires work { Work (states_of vertices count) steps.old blocked.old latest.old tails.old heads.old costs.old first.old next.old seen.old table.old }
-    ensures upper_bound { result ≤ length table.new }
-    ensures measured_all { MeasuredAll towards weights.now vertices paths.now count vertex steps.new blocked.new latest.new (take result table.new) }
-{
-    let states = build(paths, count, vertices, steps, blocked, latest, tails);
-    distances(
-        vertices,
-        towards,
-        vertex,
-        weights,
-        steps,
-        blocked,
-        latest,
-        tails,
-        heads,
-        costs,
-        first,
-        next,
-        seen,
-        &mut table[..states],
-    );
-    states
+// The work tables of a search, for S states and T steps from them: the automaton, the edges of the product with their chains, the
+// entries seen, and the distances. `seen` starts with INF everywhere, and `first` with 0.
+#[derive(Drop)]
+pub struct Work<const S: usize, const T: usize> {
+    pub automaton: Automaton<S, T>,
+    pub edges: [Edge; T],
+    pub first: [u32; S],
+    pub next: [u32; T],
+    pub seen: [u64; S],
+    pub table: [u64; S],
+}
+
+impl<const S: usize, const T: usize> Work<S, T> {
+    // Builds the automaton, and works out the distances of its states to a vertex, or from it, in the front of the table. Answers how
+    // many states there are.
+    pub fn measure(&mut self, arcs: ArcTable, paths: PathArea, goal: Goal) -> usize
+        requires given { Given paths.bytes.now paths.count arcs.vertices }
+        requires weighed { (g : Graph) × (g.count ≡ arcs.vertices) × Weights g arcs.weights.now }
+        requires room { WorkRoom (states_of arcs.vertices paths.count) S T self.old.first self.old.seen self.old.table }
+        ensures states_fit { result ≤ S }
+        ensures measured_all { MeasuredAll (is_towards goal) arcs.entry.weights.now arcs.entry.vertices paths.entry.bytes.now paths.entry.count (vertex_of goal) self.new.automaton.steps self.new.automaton.blocked self.new.automaton.latest (take result self.new.table) }
+    {
+        let states = self.automaton.build(paths, arcs.vertices);
+        let product = Product {
+            arcs,
+            steps: &self.automaton.steps,
+            blocked: &self.automaton.blocked,
+            latest: &self.automaton.latest,
+        };
+        product.distances(
+            goal,
+            &mut self.edges,
+            &mut self.first,
+            &mut self.next,
+            &mut self.seen,
+            &mut self.table[..states],
+        );
+        states
+    }
 }

@@ -13,6 +13,7 @@ ghost use Rattle.planner.specs.Planning.{Planning, PlanningOf};
 use book::{Answer, Refusal};
 use limits::{AREA, LONGEST, MOST_PATHS, MOST_SETS, NO_ARC, PAIRS};
 use routes::Found;
+use walks::{ArcTable, PathArea};
 
 #[derive(Clone, Copy)]
 pub enum Outcome {
@@ -92,5 +93,14 @@ pub fn find(
     requires start_lt_vertices { (start < vertices) × (longest ≤ length walk.old) }
     ensures { (b : Book) → IsGraph b vertices weights.now → Searched (graph b) (spelled count paths.now) start end walk.old result walk.new }
 {
-    search::best_walk(weights, vertices, paths, count, start as usize, end, walk)
+    search::best_walk(
+        ArcTable { vertices, weights },
+        PathArea {
+            bytes: paths,
+            count,
+        },
+        start as usize,
+        end,
+        walk,
+    )
 }

@@ -1,18 +1,20 @@
 -- What `edges_from` has done when it is at vertex v, and what one turn of its loop does.
-use mathlib.Core.Bool.{true, false, not, ◌&&◌}
-use mathlib.Core.List.{List, ◌++◌, append-nil, append_assoc}
+use mathlib.Core.Bool.{Bool, true, false, not, cond, ◌&&◌}
+use mathlib.Core.List.{List, [], ◌∷◌, ◌++◌, append-nil, append_assoc}
 use mathlib.Core.Path.{◌≡◌, refl, sym, ap, ◌∙◌}
-use Prim.Native.Nat.{ℕ, ◌+◌, ◌*◌, ◌/◌, ◌%◌, ◌^◌, ◌<◌, ◌≤◌}
+use Prim.Native.Nat.{ℕ, ◌+◌, ◌/◌, ◌%◌, ◌^◌, ◌<◌, ◌≤◌}
 use native.Mathlib.Nat.{pow-suc, div-one, div-div-eq-div-mul}
 use native.Mathlib.Numerals.{add-one}
 use native.Mathlib.Omega.{arith}
 use lib.Dec.{eqb}
-use lib.ListN.{length, get_or, set, length-set}
+use lib.ListN.{length, get_or, set, take, length-set}
+use lib.Seq.{take-suc-set}
+use Rattle.std.proofs.lemmas.List.{map-append}
 use Rattle.distances.specs.Edge.{Edge}
+use Rattle.distances.specs.Reverse.{swap}
 use Rattle.limits.specs.Limits.{no_arc}
-use Rattle.distances.specs.Pack.{hops_limit}
-use Rattle.product.specs.Product.{arc_at, step_to, is_open, edge_over, edges_from}
-use Rattle.product.specs.Columns.{Columns, columns-more}
+use Rattle.product.specs.Product.{arc_at, is_open, edge_over, edges_from, state_edges}
+use Rattle.product.specs.Base.{directed}
 
 -- The bits that are left after v halvings have the bit of v at their lowest place.
 pub next-half : (x v : ℕ) → x / 2 ^ v / 2 ≡ x / 2 ^ (v + 1)
@@ -22,46 +24,66 @@ pub open_test : (weights steps blockeds latests : List ℕ) (q v left : ℕ) →
     → not (eqb (arc_at weights steps blockeds latests q v) no_arc) && eqb (left % 2) 0 ≡ is_open weights steps blockeds latests q v
 open_test weights steps blockeds latests q v left e = ap (λ x. not (eqb (arc_at weights steps blockeds latests q v) no_arc) && eqb (x % 2) 0) e
 
-module _ (weights steps blockeds latests : List ℕ) (q filled : ℕ) (tails₀ heads₀ costs₀ : List ℕ) where
-  pub record Filling (tails heads costs : List ℕ) (left k v : ℕ) : Type 0 where
-    pub left_is : left ≡ get_or blockeds q 0 / 2 ^ v
-    pub few : k ≤ filled + v
-    pub tails_length : length tails ≡ length tails₀
-    pub heads_length : length heads ≡ length heads₀
-    pub costs_length : length costs ≡ length costs₀
-    pub columns : (es : List Edge) → Columns tails₀ heads₀ costs₀ filled es → Columns tails heads costs k (es ++ edges_from weights steps blockeds latests q v)
+pub directed-append : (towards : Bool) (es es' : List Edge) → directed towards (es ++ es') ≡ directed towards es ++ directed towards es'
+directed-append true es es' = refl
+directed-append false es es' = map-append swap es es'
 
-  pub filling_none : Filling tails₀ heads₀ costs₀ (get_or blockeds q 0) filled 0
-  unfolding edges_from
-  filling_none = record {
-    left_is = sym (div-one (get_or blockeds q 0));
-    few = omega arith;
-    tails_length = refl;
-    heads_length = refl;
-    costs_length = refl;
-    columns = λ es c. rw append-nil c;
-  }
+pub directed_one : (towards : Bool) (e : Edge) → directed towards (e ∷ []) ≡ cond towards e (swap e) ∷ []
+directed_one true e = refl
+directed_one false e = refl
 
-  module _ {tails heads costs : List ℕ} {left k v : ℕ} (f : Filling tails heads costs left k v) where
-    pub filling_open : is_open weights steps blockeds latests q v ≡ true → k < length tails → k < length heads → k < length costs
-        → Filling (set tails k q) (set heads k (step_to weights steps blockeds latests q v)) (set costs k (arc_at weights steps blockeds latests q v * hops_limit + 1)) (left / 2) (k + 1) (v + 1)
+module _ (weights steps blockeds latests : List ℕ) (towards : Bool) where
+  module _ (q filled : ℕ) (es₀ : List Edge) where
+    pub record Filling (es : List Edge) (left k v : ℕ) : Type 0 where
+      pub left_is : left ≡ get_or blockeds q 0 / 2 ^ v
+      pub few : k ≤ filled + v
+      pub same_length : length es ≡ length es₀
+      pub appended : take k es ≡ take filled es₀ ++ directed towards (edges_from weights steps blockeds latests q v)
+
+    pub filling_none : Filling es₀ (get_or blockeds q 0) filled 0
     unfolding edges_from
-    filling_open o a b c = record {
-      left_is = ap (λ x. x / 2) f.left_is ∙ next-half (get_or blockeds q 0) v;
-      few = omega (arith, f.few);
-      tails_length = length-set tails k q ∙ f.tails_length;
-      heads_length = length-set heads k _ ∙ f.heads_length;
-      costs_length = length-set costs k _ ∙ f.costs_length;
-      columns = λ es i. rw (add-one v, o, ← append_assoc) (columns-more (edge_over weights steps blockeds latests q v) a b c (f.columns es i));
+    filling_none = record {
+      left_is = sym (div-one (get_or blockeds q 0));
+      few = omega arith;
+      same_length = refl;
+      appended = none towards;
     }
+      where
+        none : (towards : Bool) → take filled es₀ ≡ take filled es₀ ++ directed towards []
+        none true = sym (append-nil (take filled es₀))
+        none false = sym (append-nil (take filled es₀))
 
-    pub filling_shut : is_open weights steps blockeds latests q v ≡ false → Filling tails heads costs (left / 2) k (v + 1)
-    unfolding edges_from
-    filling_shut o = record {
-      left_is = ap (λ x. x / 2) f.left_is ∙ next-half (get_or blockeds q 0) v;
-      few = omega (arith, f.few);
-      tails_length = f.tails_length;
-      heads_length = f.heads_length;
-      costs_length = f.costs_length;
-      columns = λ es i. rw (add-one v, o, append-nil) (f.columns es i);
-    }
+    module _ {es : List Edge} {left k v : ℕ} (f : Filling es left k v) where
+      pub filling_open : is_open weights steps blockeds latests q v ≡ true → k < length es → {e : Edge}
+          → e ≡ cond towards (edge_over weights steps blockeds latests q v) (swap (edge_over weights steps blockeds latests q v))
+          → Filling (set es k e) (left / 2) (k + 1) (v + 1)
+      unfolding edges_from
+      filling_open o room {e} is = record {
+        left_is = ap (λ x. x / 2) f.left_is ∙ next-half (get_or blockeds q 0) v;
+        few = omega (arith, f.few);
+        same_length = length-set es k e ∙ f.same_length;
+        appended = rw (add-one v, o, directed-append, directed_one, ← is, ← append_assoc, ← f.appended) (rw add-one (take-suc-set es k e room));
+      }
+
+      pub filling_shut : is_open weights steps blockeds latests q v ≡ false → Filling es (left / 2) k (v + 1)
+      unfolding edges_from
+      filling_shut o = record {
+        left_is = ap (λ x. x / 2) f.left_is ∙ next-half (get_or blockeds q 0) v;
+        few = omega (arith, f.few);
+        same_length = f.same_length;
+        appended = rw (add-one v, o, append-nil) f.appended;
+      }
+
+  -- One more state.
+  pub states-next : (n q : ℕ) → directed towards (state_edges weights steps blockeds latests n (q + 1))
+      ≡ directed towards (state_edges weights steps blockeds latests n q) ++ directed towards (edges_from weights steps blockeds latests q n)
+  unfolding state_edges
+  states-next n q = rw add-one (directed-append towards _ _)
+
+  pub states-none : (n : ℕ) → [] ≡ directed towards (state_edges weights steps blockeds latests n 0)
+  unfolding state_edges
+  states-none n = none towards
+    where
+      none : (towards : Bool) → [] ≡ directed towards []
+      none true = refl
+      none false = refl

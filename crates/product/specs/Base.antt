@@ -4,15 +4,27 @@ use mathlib.Core.List.{List, [], ◌∷◌, ◌++◌}
 use Rattle.std.proofs.Common.{inl, inr, ◌∙◌, arith}
 use Rattle.std.proofs.Math.Logic.{by_cases}
 use Rattle.std.proofs.Math.Path.{refl}
-use Prim.Native.Nat.{ℕ, zero, suc, ◌<◌, ◌≤◌}
+use Prim.Native.Nat.{ℕ, zero, suc, ◌<◌}
 use Rattle.std.proofs.Math.Decide.{ℕ_discrete, dec_lt}
 use Rattle.std.proofs.Math.ListN.{length-append, get_or-append, get_or-eq_default}
 use Rattle.std.proofs.lemmas.List.{get_or_at}
+use Rattle.product.specs.declared.Goal.{Goal}
+use Rattle.product.specs.declared.Goal.TheVariants.{To, From}
 use Rattle.distances.specs.Edge.{Edge, Within}
 use Rattle.distances.specs.Reverse.{swapped}
 use Rattle.distances.proofs.Reverse.{within-swapped}
 use Rattle.distances.specs.Table.{at, inf}
 use Rattle.distances.specs.Pack.{Targets}
+
+-- Distances to a vertex, or from it.
+abbrev pub is_towards : Goal → Bool
+is_towards (To v) = true
+is_towards (From v) = false
+
+-- The vertex.
+abbrev pub vertex_of : Goal → ℕ
+vertex_of (To v) = v
+vertex_of (From v) = v
 
 -- Distances to a vertex are counted to every state that stands at it; distances from a vertex from its own state, which has its number.
 abbrev pub place : Bool → List ℕ → ℕ → ℕ

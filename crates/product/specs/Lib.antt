@@ -1,7 +1,7 @@
--- Meaning for this crate's contracts: Product (the edges) and Base (where the distances start, and their direction), Columns and Scratch (the work tables). Laws: ProductLaws, Fits.
+-- Meaning for this crate's contracts: Product (the edges) and Base (where the distances start, and their direction), View (a Product's tables as these take them) and Scratch (the work tables). Laws: ProductLaws, Fits.
 pub mod Product
 pub mod ProductLaws
 pub mod Base
-pub mod Columns
 pub mod Fits
+pub mod View
 pub mod Scratch

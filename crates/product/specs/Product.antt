@@ -9,7 +9,6 @@ use Prim.Native.Nat.{ℕ, zero, suc, ◌+◌, ◌*◌, ◌<◌}
 use Rattle.std.proofs.Math.Decide.{ℕ_discrete}
 use Rattle.distances.specs.Edge.{Edge, ◌∈◌}
 use Rattle.distances.specs.Pack.{pack}
-use Rattle.states.specs.Automaton.{go}
 use Rattle.automaton.specs.Built.{bit}
 use Rattle.limits.specs.Limits.{no_arc, most_vertices}
 

@@ -12,6 +12,7 @@ ghost use Rattle.reach.specs.Reaching.{Reaching};
 use book::{Answer, Refusal};
 use end_search::search_ends;
 use limits::{AREA, MOST_PATHS, MOST_SETS, NO_ARC, PAIRS};
+use walks::{ArcTable, PathArea};
 
 // The table is filled for that many vertices; or the call is refused.
 #[derive(Clone, Copy)]
@@ -78,5 +79,13 @@ pub fn fill(
     requires start_lt_vertices { (start < vertices) × (2 * vertices ≤ length table.old) }
     ensures { (b : Book) → IsGraph b vertices weights.now → table.new ≡ ends (graph b) (spelled count paths.now) start vertices ++ drop (2 * vertices) table.old }
 {
-    search_ends(weights, vertices, paths, count, start, table)
+    search_ends(
+        ArcTable { vertices, weights },
+        PathArea {
+            bytes: paths,
+            count,
+        },
+        start,
+        table,
+    )
 }

@@ -1,20 +1,10 @@
 -- What `usable` has done when it is at vertex v, and what one turn of its loop does.
-use mathlib.Core.Bool.{Bool, true, false}
-use mathlib.Core.List.{List}
-use mathlib.Core.Path.{◌≡◌, refl, sym, ap, ◌∙◌}
-use Prim.Native.Nat.{ℕ, suc, ◌+◌, ◌*◌, ◌/◌, ◌%◌, ◌^◌, ◌<◌, ◌≤◌}
-use native.Mathlib.Nat.{div-one, pow-suc, one-mul, mod-eq_of_lt}
-use native.Mathlib.Numerals.{add-one}
-use native.Mathlib.Omega.{arith}
-use borrow.Author.Tests.{eq-eqb, ne_eqb}
+use Rattle.std.proofs.Common.{Bool, true, false, ◌&&◌, ◌≡◌, ◌≢◌, refl, sym, ap, ◌∙◌, ℕ, suc, ◌+◌, ◌*◌, ◌/◌, ◌%◌, ◌^◌, ◌<◌, ◌≤◌, eqb, eq-eqb, ne_eqb, add-one, pow-suc, arith}
+use native.Mathlib.Nat.{div-one, one-mul, mod-eq_of_lt}
 use lib.Pow.{pow_mono, pow-lt}
-use Rattle.distances.specs.Table.{at}
-use Rattle.distances.specs.Pack.{pack}
-use Rattle.product.specs.Product.{arc_at, step_to, is_open}
-use Rattle.routes.specs.Route.{is_usable}
+use Rattle.product.proofs.Filling.{next-half}
 use Rattle.routes.specs.Word.{word}
 use Rattle.routes.proofs.Word.{word_lt}
-use Rattle.product.proofs.Filling.{next-half}
 
 pub record Choosing (p : ℕ → Bool) (bits left chosen v : ℕ) : Type 0 where
   pub left_is : left ≡ bits / 2 ^ v
@@ -45,15 +35,12 @@ module _ {p : ℕ → Bool} {bits left chosen v : ℕ} (c : Choosing p bits left
       let double : 2 ^ suc v ≤ 2 ^ 64 = pow_mono b in
       rw (shifted v b) (omega (arith, c.chosen_is, word_lt p v, pow-suc 2 v))
 
--- The test of a usable vertex by its parts.
-module _ (weights steps bits latests d : List ℕ) (q v : ℕ) where
-  pub usable-yes : is_open weights steps bits latests q v ≡ true → at d (step_to weights steps bits latests q v) + pack (arc_at weights steps bits latests q v) 1 ≡ at d q
-      → is_usable weights steps bits latests d q v ≡ true
-  usable-yes o e = rw (o, eq-eqb (at d (step_to weights steps bits latests q v) + pack (arc_at weights steps bits latests q v) 1) (at d q) e)
+-- The test of a usable vertex by its parts: it is open, and the entry falls.
+pub usable-yes : {o : Bool} {x y : ℕ} → o ≡ true → x ≡ y → o && eqb x y ≡ true
+usable-yes {x = x} {y} o e = rw (o, eq-eqb x y e)
 
-  pub usable_dear : is_open weights steps bits latests q v ≡ true → (at d (step_to weights steps bits latests q v) + pack (arc_at weights steps bits latests q v) 1 ≡ at d q → ⊥)
-      → is_usable weights steps bits latests d q v ≡ false
-  usable_dear o e = rw (o, ne_eqb (at d (step_to weights steps bits latests q v) + pack (arc_at weights steps bits latests q v) 1) (at d q) e)
+pub usable_dear : {o : Bool} {x y : ℕ} → o ≡ true → x ≢ y → o && eqb x y ≡ false
+usable_dear {x = x} {y} o e = rw (o, ne_eqb x y e)
 
-  pub usable_shut : is_open weights steps bits latests q v ≡ false → is_usable weights steps bits latests d q v ≡ false
-  usable_shut o = rw o
+pub usable_shut : {o : Bool} (e : Bool) → o ≡ false → o && e ≡ false
+usable_shut e o = rw o

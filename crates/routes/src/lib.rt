@@ -1,19 +1,18 @@
-// The best walk, read off a table of distances. The other tables are those of the product.
+// The best walk, read off a table of distances.
 #![tactic(auto)]
 
 ghost use Rattle.std.specs.Prelude.{◌≡◌, true, List, [], ◌∷◌, ◌++◌, ℕ, ◌%◌, ◌<◌, ◌≤◌, length, drop};
 ghost use Rattle.walks.specs.Graph.{Graph};
 ghost use Rattle.walks.specs.Avoid.{Avoids};
 ghost use Rattle.distances.specs.Table.{at, inf};
-ghost use Rattle.routes.specs.Route.{usable, next, walk_from};
 ghost use Rattle.distances.specs.Pack.{hops_limit};
 ghost use Rattle.limits.specs.Limits.{longest};
-ghost use Rattle.routes.specs.Guiding.{Node, Guiding};
-ghost use Rattle.routes.specs.Plan.{Searched, Measured};
+ghost use Rattle.routes.specs.View.{NodeOf, GuidingOf, MeasuredOf, usable_of, next_of, walk_of};
+ghost use Rattle.routes.specs.Plan.{Searched};
 
 use distances::{HOPS, INF};
-use limits::{MOST_VERTICES, PAIRS};
-use product::is_open;
+use limits::MOST_VERTICES;
+use product::{Product, is_open};
 
 // What is found: a walk stands in the area, and has that weight (01: litres) and as many arcs (01: changeovers); or there is none.
 #[derive(Clone, Copy)]
@@ -22,106 +21,70 @@ pub enum Found {
     Nothing,
 }
 
-// The usable vertices below n at state q as a word: those over which the entry falls by the arc and one hop.
-fn usable(
-    n: usize,
-    q: usize,
-    weights: &[u32; PAIRS],
-    steps: &[u16],
-    blocked: &[u64],
-    latest: &[u8],
-    table: &[u64],
-) -> u64
-    requires { Node n weights.now steps.now blocked.now latest.now table.now q }
-    ensures { result ≡ usable weights.now steps.now blocked.now latest.now table.now n q }
+// The usable vertices at state q as a word: those over which the entry falls by the arc and one hop.
+fn usable(product: Product, q: usize, table: &[u64]) -> u64
+    requires { NodeOf product table.now q }
+    ensures { result ≡ usable_of product.entry table.now q }
 {
-    let arcs = latest[q] as usize * MOST_VERTICES;
+    let arcs = product.latest[q] as usize * MOST_VERTICES;
     let row = q * MOST_VERTICES;
     let here = table[q];
-    let mut bits = blocked[q];
+    let mut bits = product.blocked[q];
     let mut word = 0;
-    let mut v = 0;
-    while v < n {
-        let weight = weights[arcs + v];
+    for v in 0..product.arcs.vertices {
+        let weight = product.arcs.weights[arcs + v];
         if is_open(weight, bits) {
-            let r = steps[row + v] as usize;
+            let r = product.steps[row + v] as usize;
             if table[r] + (weight * HOPS + 1) as u64 == here {
                 word += 1 << v;
             }
         }
-        bits = bits / 2;
-        v += 1;
+        bits /= 2;
     }
     word
 }
 
 // The lowest usable vertex.
-fn next(
-    n: usize,
-    q: usize,
-    weights: &[u32; PAIRS],
-    steps: &[u16],
-    blocked: &[u64],
-    latest: &[u8],
-    table: &[u64],
-) -> usize
-    requires { Node n weights.now steps.now blocked.now latest.now table.now q }
-    ensures { result ≡ next weights.now steps.now blocked.now latest.now table.now n q }
+fn next(product: Product, q: usize, table: &[u64]) -> usize
+    requires { NodeOf product table.now q }
+    ensures { result ≡ next_of product.entry table.now q }
 {
-    u64::trailing_zeros(usable(n, q, weights, steps, blocked, latest, table)) as usize
+    u64::trailing_zeros(usable(product, q, table)) as usize
 }
 
 // Writes the vertices of the best walk from `start` into the front of the area. Answers how many there are.
-fn walk(
-    n: usize,
-    start: usize,
-    weights: &[u32; PAIRS],
-    steps: &[u16],
-    blocked: &[u64],
-    latest: &[u8],
-    table: &[u64],
-    area: &mut [u8],
-) -> usize
-    requires guiding { Guiding n weights.now steps.now blocked.now latest.now table.now }
-    requires start_lt_n { (start < n) × (start < length table.now) × (at table.now start < inf) }
-    requires hops_limit_in_bounds { at table.now start % hops_limit < length area.old }
-    ensures value { result ≡ length (walk_from weights.now steps.now blocked.now latest.now table.now n start) }
-    ensures area_after { area.new ≡ walk_from weights.now steps.now blocked.now latest.now table.now n start ++ drop result area.old }
+fn walk(product: Product, start: usize, table: &[u64], area: &mut [u8]) -> usize
+    requires guiding { GuidingOf product table.now }
+    requires start_below { (start < product.arcs.vertices) × (start < length table.now) }
+    requires start_near { at table.now start < inf }
+    requires area_room { at table.now start % hops_limit < length area.old }
+    ensures counted { result ≡ length (walk_of product.entry table.now start) }
+    ensures area_after { area.new ≡ walk_of product.entry table.now start ++ drop result area.old }
 {
     let count = (table[start] % HOPS as u64) as usize + 1;
     area[0] = start as u8;
     let mut q = start;
-    let mut k = 1;
-    while k < count {
-        let v = next(n, q, weights, steps, blocked, latest, table);
+    for k in 1..count {
+        let v = next(product, q, table);
         area[k] = v as u8;
-        q = steps[q * MOST_VERTICES + v] as usize;
-        k += 1;
+        q = product.steps[q * MOST_VERTICES + v] as usize;
     }
     count
 }
 
 // The best walk from `start` to where the distances lead: its vertices in the front of the area; or nothing, and the area as it
 // was.
-pub fn least_walk(
-    n: usize,
-    start: usize,
-    weights: &[u32; PAIRS],
-    steps: &[u16],
-    blocked: &[u64],
-    latest: &[u8],
-    table: &[u64],
-    area: &mut [u8],
-) -> Found
-    requires by_index { (g : Graph) × (F : List (List ℕ)) × (t : ℕ) × Measured true g F n t weights.now steps.now blocked.now latest.now table.now }
-    requires start_lt_n { (start < n) × (longest ≤ length area.old) }
-    ensures { (g : Graph) (F : List (List ℕ)) (t : ℕ) → Measured true g F n t weights.now steps.now blocked.now latest.now table.now → Avoids F (start ∷ []) → Searched g F start t area.old result area.new }
+pub fn least_walk(product: Product, start: usize, table: &[u64], area: &mut [u8]) -> Found
+    requires measured { (g : Graph) × (F : List (List ℕ)) × (t : ℕ) × MeasuredOf product table.now true g F t }
+    requires start_below { start < product.arcs.vertices }
+    requires area_room { longest ≤ length area.old }
+    ensures { (g : Graph) (F : List (List ℕ)) (t : ℕ) → MeasuredOf product.entry table.now true g F t → Avoids F (start ∷ []) → Searched g F start t area.old result area.new }
 {
     let here = table[start];
     if here == INF {
         return Found::Nothing;
     }
-    let count = walk(n, start, weights, steps, blocked, latest, table, area);
+    let count = walk(product, start, table, area);
     Found::Walk {
         weight: here / HOPS as u64,
         hops: count - 1,

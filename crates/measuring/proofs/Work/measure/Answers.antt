@@ -1,0 +1,20 @@
+-- What was built and measured is what was asked for.
+use Rattle.std.proofs.Common.{arith}
+use Rattle.routes.proofs.Plan.{prepared-fits}
+use Rattle.measuring.specs.Work.{front-prepared, front-edges, back_measured}
+use Rattle.measuring.proofs.Work.measure.Goals as goal
+
+pub distances-requires-clause-rows : goal.distances-requires-clause-rows
+distances-requires-clause-rows g c =
+    let given = c.requires.given in
+    let (graph, count-is, weighed) = c.requires.weighed in
+    prepared-fits (front-prepared given.spells (c.build-states.ensures.built given.paths given.spells given.bounded) c.args.self.now.table c.requires.room.entries count-is weighed)
+
+pub distances-requires-clause-edge_room : goal.distances-requires-clause-edge_room
+distances-requires-clause-edge_room g c =
+    let given = c.requires.given in
+    front-edges given.spells (c.build-states.ensures.built given.paths given.spells given.bounded) c.args.self.now.table c.requires.room.entries g.row.S g.row.T c.requires.room (omega arith) (omega arith) (omega arith) (omega arith)
+
+pub returns-clause-measured_all : goal.returns-clause-measured_all
+returns-clause-measured_all g c graph F count-is weighed spells bounded =
+    back_measured spells (c.build-states.ensures.built F spells bounded) c.args.self.now.table c.requires.room.entries c.distances.new.table c.distances.auto.table count-is weighed _ _ c.distances.ensures

@@ -1,0 +1,13 @@
+-- The distances are those to the end, and the best walk is read off them.
+use Rattle.walks.proofs.Avoid.{Avoids-single}
+use Rattle.search.proofs.search_in.Goals as goal
+
+pub least_walk-requires-clause-measured : goal.least_walk-requires-clause-measured
+least_walk-requires-clause-measured g c =
+    let asked = c.requires.asked in
+    let (graph, count-is, weighed) = asked.weighed in
+    (graph, asked.given.paths, c.args.end, c.measure-states.ensures.measured_all graph asked.given.paths count-is weighed asked.given.spells asked.given.bounded)
+
+pub returns : goal.returns
+returns g c graph F count-is weighed spells bounded =
+    c.least_walk.ensures graph F c.args.end (c.measure-states.ensures.measured_all graph F count-is weighed spells bounded) (Avoids-single bounded.long c.args.start)

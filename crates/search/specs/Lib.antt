@@ -1,2 +1,0 @@
--- Meaning for this crate's contracts: Usual.
-pub mod Usual
