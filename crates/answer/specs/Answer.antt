@@ -1,5 +1,5 @@
 -- What the program `plan` prints for its input (01): marks in two bytes (high byte first), start, end, and a book.
-use Rattle.std.specs.Prelude.{ℕ, ◌≡◌, Bool, true, false, List, [], ◌∷◌, ◌++◌, ◌⊎◌, leb, ltb, length, get_or, drop}
+use Rattle.std.specs.Prelude.{ℕ, ◌≤◌, ◌≡◌, Bool, true, false, List, [], ◌∷◌, ◌⊎◌, leb, ltb, length, get_or, drop}
 use Rattle.std.proofs.Math.Option.{Option, none, some}
 use Rattle.walks.specs.Graph.{Graph}
 use Rattle.walks.specs.Best.{Best, None}
@@ -8,7 +8,7 @@ use Rattle.book.specs.Refusal.{Test, test, numbered}
 use Rattle.book.specs.Book.{Book, graph}
 use Rattle.book.specs.Reading.{Reading, reading, refusal_of, book_in, u16_at}
 use Rattle.rules.specs.Binding.{known}
-use Rattle.text.specs.Text.{walk_text, none_text, refusal_text}
+use Rattle.text.specs.Text.{longest_text, walk_text, none_text, refusal_text}
 
 -- The best walk of g from s to t that avoids F, or that there is none.
 abbrev pub AnsweredUnder : Graph → List (List ℕ) → ℕ → ℕ → List ℕ → Type 0
@@ -34,9 +34,7 @@ AnsweredBy false s text = text ≡ refusal_text (numbered 1 0)
 abbrev pub Answered : List ℕ → List ℕ → Type 0
 Answered s text = AnsweredBy (leb 4 (length s)) s text
 
--- The text stands in the front of the buffer, r bytes long; the bytes after it are as they were.
-pub record Printed (s old : List ℕ) (r : ℕ) (new : List ℕ) : Type 0 where
-  pub text : List ℕ
-  pub answered : Answered s text
-  pub length-is : r ≡ length text
-  pub bytes_are : new ≡ text ++ drop r old
+-- What is answered is such a text, and no byte more; it is no longer than the buffer for it.
+pub record Printed (s out : List ℕ) : Type 0 where
+  pub answered : Answered s out
+  pub within : length out ≤ longest_text

@@ -1,7 +1,9 @@
 -- An input has one text; and what is found in a book that was read gives that text.
-use Rattle.std.specs.Prelude.{ℕ, ◌+◌, ◌≤◌, ◌<◌, ◌≡◌, refl, Bool, true, false, List, ◌++◌, leb, length, get_or, take, drop}
+use Rattle.std.specs.Prelude
+use Rattle.std.specs.Prelude.{ℕ, ◌+◌, ◌≤◌, ◌<◌, ◌≡◌, refl, Bool, true, false, List, ◌++◌, leb, length, get_or, take, drop, Some, None, IfSome}
 use Rattle.std.proofs.Common.{sym, ap, ap₂, subst, ◌∙◌, inl, inr, arith, length-append, take_at}
 use Rattle.std.proofs.Math.Option.{Option, none, some}
+use Rattle.arrayvec.specs.ArrayVec.{ArrayVec, array_vec_len}
 use Rattle.walks.specs.Graph.{Graph}
 use Rattle.walks.proofs.Walk.{hops-length}
 use Rattle.walks.proofs.Best.{Best-unique, Best-not-None}
@@ -11,11 +13,9 @@ use Rattle.book.proofs.RefusalLaws.{first-fails, hold→none}
 use Rattle.book.specs.Book.{Book, graph}
 use Rattle.book.specs.Reading.{accepted, reading, refusal_of, book_in}
 use Rattle.rules.specs.Binding.{known}
-use Rattle.routes.specs.declared.Found.{Found}
-use Rattle.routes.specs.declared.Found.TheVariants.{Walk, Nothing}
+use Rattle.routes.specs.declared.Plan.{Plan}
 use Rattle.routes.specs.Plan.{PlannedWalk, Searched}
-use Rattle.text.specs.Text.{plan_text, walk_text, refusal_text, found_text}
-use Rattle.text.specs.Writing.{Standing, front-text, front-size, front-within}
+use Rattle.text.specs.Text.{longest_text, plan_text, walk_text, refusal_text, found_text}
 use Rattle.answer.specs.Answer.{AnsweredUnder, AnsweredAs, answer_tests, AnsweredOf, AnsweredBy, Answered, Printed}
 
 -- ---- one text
@@ -36,23 +36,20 @@ by_unique false s x y p q = p ∙ sym q
 pub Answered_unique : (s x y : List ℕ) → Answered s x → Answered s y → x ≡ y
 Answered_unique s x y p q = by_unique (leb 4 (length s)) s x y p q
 
--- So the answer and every byte of the buffer are fixed by the input and the buffer as it was.
-pub Printed_unique : (s old : List ℕ) (r r' : ℕ) (new new' : List ℕ) → Printed s old r new → Printed s old r' new' → (r ≡ r') × (new ≡ new')
-Printed_unique s old r r' new new' p q =
-    let texts = Answered_unique s p.text q.text p.answered q.answered in
-    let rs : r ≡ r' = p.length-is ∙ ap length texts ∙ sym q.length-is in
-    (rs, p.bytes_are ∙ ap₂ (λ t n. t ++ drop n old) texts rs ∙ sym q.bytes_are)
+-- So every byte that is printed is fixed by the input.
+pub Printed_unique : (s out out' : List ℕ) → Printed s out → Printed s out' → out ≡ out'
+Printed_unique s out out' p q = Answered_unique s out out' p.answered q.answered
 
--- The first r bytes are the text.
-module _ (s old : List ℕ) (r : ℕ) (new : List ℕ) (p : Printed s old r new) where
-  pub printed_front : Answered s (take r new)
-  printed_front = subst (Answered s) (sym (front-text p.text old p.length-is p.bytes_are)) p.answered
+-- What stands in the buffer is the text.
+module _ (s : List ℕ) (out : ArrayVec ℕ) (p : Printed s out.items) where
+  pub printed_front : Answered s out.items
+  printed_front = p.answered
 
-  pub printed_size : r ≡ length (take r new)
-  printed_size = front-size p.text old p.length-is p.bytes_are
+  pub printed_size : array_vec_len out ≡ length out.items
+  printed_size = refl
 
-  pub printed_within : r ≤ length new
-  printed_within = front-within p.text old p.length-is p.bytes_are
+  pub printed_within : array_vec_len out ≤ longest_text
+  printed_within = p.within
 
 -- ---- from what is found
 -- the walk of a plan stands in the front of its area
@@ -70,13 +67,13 @@ module _ {g : Graph} {F : List (List ℕ)} {s t : ℕ} {old : List ℕ} {weight 
   walk-within = omega (arith, size, ap length p.area-is ∙ length-append p.walk (drop (length p.walk) old))
 
 module _ (g : Graph) (F : List (List ℕ)) (s t : ℕ) (old new : List ℕ) where
-  pub found-text : (f : Found) → Searched g F s t old f new → AnsweredUnder g F s t (found_text f new)
-  found-text (Walk weight hops') p = inl (p.walk, p.best, walk-text p)
-  found-text Nothing p = inr (p.0, refl)
+  pub found-text : (f : Prelude.Option Plan) → Searched g F s t old f new → AnsweredUnder g F s t (found_text f new)
+  found-text (Some q) p = inl (p.walk, p.best, walk-text p)
+  found-text None p = inr (p.0, refl)
 
-  pub found-standing : (f : Found) → Searched g F s t old f new → Standing f (length new)
-  found-standing (Walk weight hops') p = walk-within p
-  found-standing Nothing p = tt
+  pub found-standing : (f : Prelude.Option Plan) → Searched g F s t old f new → IfSome f (λ q. q.hops < length new)
+  found-standing (Some q) p = walk-within p
+  found-standing None p = tt
 
 -- In a book that was read: 7, or the plan under the known paths.
 module _ (b : Book) (flags start end : ℕ) where

@@ -1,83 +1,49 @@
 // What the program `plan` prints, as a function from its input's bytes to its output's.
 #![tactic(auto)]
 
-ghost use Rattle.std.specs.Prelude.{◌≤◌, length};
-ghost use Rattle.book.specs.Book.{Book};
-ghost use Rattle.book.specs.Reading.{accepted, reading};
-ghost use Rattle.book.specs.Tables.{IsLoaded};
-ghost use Rattle.answer.specs.Answer.{Printed, AnsweredOf};
-ghost use Rattle.text.specs.Text.{longest_text};
-ghost use Rattle.text.specs.Writing.{WroteSome};
+ghost use Rattle.std.specs.Prelude.{◌≡◌, [], MatchResult};
+ghost use Rattle.answer.specs.Answer.{Printed, Answered};
+ghost use Rattle.text.specs.Text.{refusal_text};
 
-use book::{Answer, Counts, Refusal};
-use limits::{AREA, LONGEST, MOST_PATHS, MOST_SETS, NO_ARC, PAIRS};
-use lists::u16_from;
-use text::{found_text, refusal_text};
+use book::Refusal;
+use limits::{AREA, LONGEST};
+use text::{Text, found_text, refusal_text};
+use walks::PathArea;
 
-// Writes the text for an input (marks in two bytes, start, end, and a book) into the front of `out`, and answers how many
-// bytes it has.
-pub fn answer(input: &[u8], out: &mut [u8; text::LONGEST_TEXT]) -> usize
-    ensures { Printed input.now out.old result out.new }
+// The text for an input: marks in two bytes, start, end, and a book.
+pub fn answer(input: &[u8]) -> Text
+    ensures { Printed input.now result.items }
 {
-    answer_in(input, out)
+    let mut out = Text::new();
+    if let Err(refusal) = answer_plan(input, &mut out) {
+        refusal_text(refusal, &mut out);
+    }
+    out
 }
 
-// The same into a slice.
-fn answer_in(input: &[u8], out: &mut [u8]) -> usize
-    requires { longest_text ≤ length out.old }
-    ensures { Printed input.now out.old result out.new }
+// Plans from the input in areas of its own, and writes what is found; or hands the refusal up.
+fn answer_plan(input: &[u8], out: &mut Text) -> Result<(), Refusal>
+    requires blank { out.old.items ≡ [] }
+    ensures written { MatchResult result (λ _. Printed input.now out.new.items) (λ r. (out.new.items ≡ []) × Answered input.now (refusal_text r)) }
 {
-    if input.len() < 4 {
-        return refusal_text(Refusal::Truncated(0), out);
+    let [high, low, start, end, bytes @ ..] = input else {
+        return Err(Refusal::Truncated(0));
+    };
+    let book = book::load(bytes)?;
+    if book.counts.vertices <= usize::from(*start) {
+        return Err(Refusal::Endpoint);
     }
-    let flags = u16_from(input[0], input[1]);
-    answer_book(&input[4..], flags, input[2], input[3], out)
-}
-
-// Loads the book, and writes the text of the answer.
-fn answer_book(bytes: &[u8], flags: u16, start: u8, end: u8, out: &mut [u8]) -> usize
-    requires { longest_text ≤ length out.old }
-    ensures { WroteSome (AnsweredOf (reading bytes.now) flags start end) out.old result out.new }
-{
-    let mut weights = [NO_ARC; PAIRS];
-    let mut needed = [0u16; MOST_SETS];
-    let mut owners = [0u8; MOST_PATHS];
-    let mut entries = [0u8; AREA];
-    let read = book::load(bytes, &mut weights, &mut needed, &mut owners, &mut entries);
-    match read {
-        Answer::Refused(r) => refusal_text(r, out),
-        Answer::Read(counts) => answer_loaded(
-            counts, &weights, &needed, &owners, &entries, flags, start, end, out,
-        ),
+    if book.counts.vertices <= usize::from(*end) {
+        return Err(Refusal::Endpoint);
     }
-}
-
-// Binds and plans in a book that has been read, in areas of its own.
-fn answer_loaded(
-    counts: Counts,
-    weights: &[u32; PAIRS],
-    needed: &[u16; MOST_SETS],
-    owners: &[u8; MOST_PATHS],
-    entries: &[u8],
-    flags: u16,
-    start: u8,
-    end: u8,
-    out: &mut [u8],
-) -> usize
-    requires loaded { (b : Book) × IsLoaded b counts weights.now needed.now owners.now entries.now }
-    requires longest_text_in_bounds { longest_text ≤ length out.old }
-    ensures { (b : Book) → IsLoaded b counts weights.now needed.now owners.now entries.now → WroteSome (AnsweredOf (accepted b) flags start end) out.old result out.new }
-{
-    let vertices = counts.vertices;
-    if vertices <= start as usize {
-        return refusal_text(Refusal::Endpoint, out);
-    }
-    if vertices <= end as usize {
-        return refusal_text(Refusal::Endpoint, out);
-    }
-    let mut paths = [0u8; AREA];
-    let count = rules::gather(needed, owners, entries, counts.paths, flags, &mut paths);
-    let mut walk = [0u8; LONGEST];
-    let found = planner::find(weights, vertices, &paths, count, start, end, &mut walk);
-    found_text(found, &walk, out)
+    let mut known = [0; AREA];
+    let count = rules::gather(&book, u16::from_be_bytes([*high, *low]), &mut known);
+    let paths = PathArea {
+        bytes: &known,
+        count,
+    };
+    let mut walk = [0; LONGEST];
+    let found = planner::find(book.arcs(), paths, *start, *end, &mut walk);
+    found_text(found, &walk, out);
+    Ok(())
 }

@@ -1,8 +1,9 @@
 -- What a single call leaves in the areas that it is lent.
-use Rattle.std.specs.Prelude.{ℕ, ◌≡◌, List}
+use Rattle.std.specs.Prelude.{ℕ, ◌≡◌, List, Option, Result}
+use Rattle.book.specs.declared.Refusal.{Refusal}
 use Rattle.rules.specs.Operations.{binding, area_after}
-use Rattle.planner.specs.declared.Outcome.{Outcome}
 use Rattle.planner.specs.Planning.{Planning}
+use Rattle.routes.specs.declared.Plan.{Plan as Found}
 use Rattle.trial_record.specs.declared.Record.{Record}
 use Rattle.trial_rules.specs.Trials.{failed}
 use Rattle.trials.specs.Operations.{beginning, reporting}
@@ -14,7 +15,7 @@ use Rattle.any_cases.specs.declared.Call.TheVariants.{Bind, Check, Plan, Begin, 
 abbrev pub Made : Call → Record → ℕ → List ℕ → List ℕ → List ℕ → List ℕ → List ℕ → List ℕ → Type 0
 Made Bind r flags list s paths walk paths' walk' = (paths' ≡ area_after (binding s flags paths) paths) × (walk' ≡ walk)
 Made Check r flags list s paths walk paths' walk' = (paths' ≡ paths) × (walk' ≡ walk)
-Made Plan r flags list s paths walk paths' walk' = (paths' ≡ paths) × ((o : Outcome) × Planning s paths r.known r.start r.end walk o walk')
+Made Plan r flags list s paths walk paths' walk' = (paths' ≡ paths) × ((o : Result (Option Found) Refusal) × Planning s paths r.known r.start r.end walk o walk')
 Made Begin r flags list s paths walk paths' walk' =
     (paths' ≡ (beginning s flags r.start r.end paths walk).paths) × (walk' ≡ (beginning s flags r.start r.end paths walk).walk)
 Made Passed r flags list s paths walk paths' walk' = (paths' ≡ paths) × (walk' ≡ walk)

@@ -7,21 +7,15 @@
 ghost use Rattle.any_cases.specs.Making.{Made};
 
 mod answers;
-mod changes;
 
-use answers::{begun, bound, planned, reported};
+use answers::{begun, bound, reported};
 use book::Refusal;
-use cases::refusal;
-use changes::changes;
+use cases::{changes, planned};
 use kinds::checked;
-use lists::u16_from;
-use record_bytes::{record_of, word};
+use record_bytes::{MOST_AREA, area, record_of, word};
 use trial_record::Record;
 
 const HEAD: usize = 72;
-
-// As many bytes as an area may have.
-const MOST_AREA: usize = 4_096;
 
 #[derive(Clone, Copy)]
 pub enum Call {
@@ -34,10 +28,10 @@ pub enum Call {
 }
 
 // An area is the bytes that are given, and as many more of one value as the head says.
-pub fn any_case(call: Call, input: &[u8]) {
+pub fn any_case(rt: &impl Print, call: Call, input: &[u8]) {
     let size = input.len();
     if size < HEAD {
-        refusal(Refusal::Truncated(0));
+        println!(rt; "{}", Refusal::Truncated(0)).unwrap_or(());
         return;
     }
     let paths_given = word(input, 60);
@@ -47,39 +41,32 @@ pub fn any_case(call: Call, input: &[u8]) {
     let walk_from = HEAD + paths_given;
     let list_from = walk_from + walk_given;
     let book_from = list_from + word(input, 70);
-    if size < book_from {
-        refusal(Refusal::Truncated(0));
+    if size < book_from || MOST_AREA < paths_size || MOST_AREA < walk_size {
+        println!(rt; "{}", Refusal::Truncated(0)).unwrap_or(());
         return;
     }
-    if MOST_AREA < paths_size {
-        refusal(Refusal::Truncated(0));
-        return;
-    }
-    if MOST_AREA < walk_size {
-        refusal(Refusal::Truncated(0));
-        return;
-    }
-    let mut paths = [input[64]; MOST_AREA];
-    let mut walk = [input[69]; MOST_AREA];
-    lists::copy(input, HEAD, &mut paths, 0, paths_given);
-    lists::copy(input, walk_from, &mut walk, 0, walk_given);
+    let mut paths = area(&input[HEAD..walk_from], input[64]);
+    let mut walk = area(&input[walk_from..list_from], input[69]);
     let paths_before = paths;
     let walk_before = walk;
     make(
+        rt,
         call,
         record_of(input),
-        u16_from(input[58], input[59]),
+        u16::from_be_bytes([input[58], input[59]]),
         &mut paths[..paths_size],
         &mut walk[..walk_size],
         &input[list_from..book_from],
         &input[book_from..],
     );
-    changes(b"RUNS", &paths_before, &paths);
-    changes(b"LINEUP", &walk_before, &walk);
+    changes(rt, "RUNS", &paths_before, &paths);
+    changes(rt, "LINEUP", &walk_before, &walk);
 }
 
-// Makes the call, and prints its answer. The count of known paths, start and end are the record's.
+// Makes the call, and prints its answer. The count of known paths, start and end are the record's. It takes what the operations take, and each
+// kind of call is another operation: so a `match`.
 fn make(
+    rt: &impl Print,
     call: Call,
     rec: Record,
     flags: u16,
@@ -91,20 +78,20 @@ fn make(
     ensures { Made call rec flags list.now bytes.now paths.old walk.old paths.new walk.new }
 {
     match call {
-        Call::Bind => bound(rules::bind(bytes, flags, paths)),
-        Call::Check => checked(walk_check::check(bytes, paths, rec.known, list)),
+        Call::Bind => bound(rt, rules::bind(bytes, flags, paths)),
+        Call::Check => checked(rt, walk_check::check(bytes, paths, rec.known, list)),
         Call::Plan => {
             let answer = planner::plan(bytes, paths, rec.known, rec.start, rec.end, walk);
-            planned(answer, walk);
+            planned(rt, answer, walk);
         }
         Call::Begin => {
             let answer = trials::begin(bytes, flags, rec.start, rec.end, paths, walk);
-            begun(answer, walk);
+            begun(rt, answer, walk);
         }
-        Call::Passed => reported(trials::report_passed(bytes, rec, paths, walk), walk),
+        Call::Passed => reported(rt, trials::report_passed(bytes, rec, paths, walk), walk),
         Call::Failed => {
             let answer = trials::report_failed(bytes, rec, paths, walk, list);
-            reported(answer, walk);
+            reported(rt, answer, walk);
         }
     }
 }

@@ -2,7 +2,7 @@
 use Rattle.std.specs.Prelude.{List, ◌≡◌, ℕ, ◌+◌, ◌*◌, ◌<◌, length, get_or}
 use Rattle.limits.specs.Limits.{most_paths, entry_size, most_vertices}
 
--- The tables have room for s states and t steps.
+-- The tables are for s states and t steps.
 pub record Sized (s t : ℕ) (steps blockeds latests fails : List ℕ) : Type 0 where
   pub of_steps : length steps ≡ t
   pub of_blockeds : length blockeds ≡ s

@@ -20,7 +20,8 @@ pub const STATES: usize = MOST_VERTICES + MOST_PATHS * PREFIXES;
 
 pub const STEPS: usize = STATES * MOST_VERTICES;
 
-// The automaton's tables: room for S states and T steps from them.
+// The automaton's tables: room for S states and T steps from them. A table each, and not a struct a state: the vertices alone are read for all
+// states, and a row of steps is copied within its table.
 #[derive(Drop)]
 pub struct Automaton<const S: usize, const T: usize> {
     // The step of state q over vertex v at q * 64 + v.
@@ -35,8 +36,8 @@ pub struct Automaton<const S: usize, const T: usize> {
 
 // The steps of a single vertex, before any longer state is there.
 fn single_row(steps: &mut [u16], from: usize, vertices: usize)
-    requires vertices_le_most_vertices { vertices ≤ most_vertices }
-    requires vertices_in_bounds { from + vertices ≤ length steps.old }
+    requires few_vertices { vertices ≤ most_vertices }
+    requires room { from + vertices ≤ length steps.old }
     ensures { Filled steps.old steps.new from vertices }
 {
     for v in 0..vertices {
@@ -46,8 +47,8 @@ fn single_row(steps: &mut [u16], from: usize, vertices: usize)
 
 // Each path stands at its first vertex.
 fn starts(paths: PathArea, current: &mut [u16; MOST_PATHS])
-    requires entry_size_in_bounds { paths.count * entry_size ≤ length paths.bytes.now }
-    requires count_le_most_paths { paths.count ≤ most_paths }
+    requires within { paths.count * entry_size ≤ length paths.bytes.now }
+    requires few_paths { paths.count ≤ most_paths }
     ensures { Starts paths.entry.bytes.now paths.entry.count current.new }
 {
     for i in 0..paths.count {
@@ -55,11 +56,13 @@ fn starts(paths: PathArea, current: &mut [u16; MOST_PATHS])
     }
 }
 
+// Each method says that the tables are as long as before (`Sized`): of an array that a loop wrote, a proof no longer knows it.
 impl<const S: usize, const T: usize> Automaton<S, T> {
     // The single vertices: each steps to each vertex, and none is blocked.
     fn singles(&mut self, vertices: usize)
-        requires vertices_le_most_vertices { vertices ≤ most_vertices }
-        requires vertices_in_bounds { (vertices * most_vertices ≤ T) × (vertices ≤ S) }
+        requires few_vertices { vertices ≤ most_vertices }
+        requires states_fit { vertices ≤ S }
+        requires steps_fit { vertices * most_vertices ≤ T }
         ensures singles { Singles vertices vertices self.new.steps self.new.blocked self.new.latest }
         ensures same_fail { self.new.fail ≡ self.old.fail }
         ensures sized { Sized S T self.new.steps self.new.blocked self.new.latest self.new.fail }
@@ -88,7 +91,8 @@ impl<const S: usize, const T: usize> Automaton<S, T> {
         }
     }
 
-    // The next vertex of path i, which stands at a state of `level` vertices: nothing where the path has ended before; blocked where it ends there; else the path goes on to the child, which may be new.
+    // The next vertex of path i, which stands at a state of `level` vertices: nothing where the path has ended before; blocked where it ends
+    // there; else the path goes on to the child, which may be new. What it takes is the state of the two loops around it.
     fn extend(
         &mut self,
         paths: PathArea,
@@ -146,10 +150,12 @@ impl<const S: usize, const T: usize> Automaton<S, T> {
         states
     }
 
-    // Builds the automaton of the paths that the area spells, in the front of the tables: their steps, their blocked vertices, and the vertex at which each state stands. Answers how many states there are.
+    // Builds the automaton of the paths that the area spells, in the front of the tables: the steps of its states, their blocked vertices, and the
+    // vertex at which each stands. Answers how many states there are.
     pub fn build(&mut self, paths: PathArea, vertices: usize) -> usize
         requires given { Given paths.bytes.now paths.count vertices }
-        requires room { (states_of vertices paths.count ≤ S) × (states_of vertices paths.count * most_vertices ≤ T) }
+        requires states_fit { states_of vertices paths.count ≤ S }
+        requires steps_fit { states_of vertices paths.count * most_vertices ≤ T }
         ensures built { (F : List (List ℕ)) → Spells paths.entry.bytes.now paths.entry.count F → Bounded vertices F → Built F vertices result self.new.steps self.new.blocked self.new.latest }
         ensures sized { Sized S T self.new.steps self.new.blocked self.new.latest self.new.fail }
     {

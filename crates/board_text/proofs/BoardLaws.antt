@@ -1,21 +1,28 @@
 -- The text by what is refused, with the lines read off the table of ends; and where it stands.
-use Rattle.std.specs.Prelude.{ℕ, ◌≤◌, ◌<◌, ◌≡◌, refl, length, get_or, take, drop}
-use Rattle.std.proofs.Common.{sym, ap, ap₂, ◌∙◌, arith, lt-ltb, le-ltb, le-leb}
+use Rattle.std.specs.Prelude.{ℕ, ◌*◌, ◌-◌, ◌≤◌, ◌<◌, ◌≡◌, refl, length, get_or, take, drop}
+use Rattle.std.proofs.Common.{sym, ap, ap₂, subst₂, ◌∙◌, arith, lt-ltb, le-ltb, le-leb, length-drop}
+use Rattle.std.proofs.Math.Seq.{take_all}
 use mathlib.Core.List.{List, [], ◌∷◌, ◌++◌, append-nil, Memᴰ}
 use Rattle.std.proofs.Math.Option.{Option, none, some}
 use Rattle.limits.specs.Limits.{longest_path}
 use Rattle.states.specs.Chosen.{Decided, chosen}
 use Rattle.states.proofs.Chosen.{chosen_is}
+use Rattle.book.specs.declared.Loaded.{Loaded}
 use Rattle.book.specs.Book.{Book, WellFormed, graph}
+use Rattle.book.specs.Loaded.{LoadedFrom}
+use Rattle.book.specs.Tables.{IsGraph}
 use Rattle.book.proofs.BookLaws.{reading-is-book, all-member}
 use Rattle.book.specs.EntryLaws.{Short}
 use Rattle.book.specs.Reading.{accepted, reading, u16_at}
 use Rattle.book.specs.Refusal.{numbered, test, refusal_by}
 use Rattle.book.proofs.TableLaws.{book-weights}
+use Rattle.rules.specs.Area.{spelled, written}
 use Rattle.rules.specs.Binding.{known}
+use Rattle.rules.proofs.Laws.{gathered_spells}
 use Rattle.rules.proofs.BindingLaws.{known-few, known-short}
-use Rattle.text.specs.Text.{refusal_text}
-use Rattle.text.specs.Writing.{Wrote, wrote-front, front-size, front-within}
+use Rattle.arrayvec.specs.ArrayVec.{ArrayVec, array_vec_len}
+use Rattle.text.specs.Text.{longest_text, refusal_text}
+use Rattle.text.proofs.Writing.{Wrote, wrote-front}
 use Rattle.ends.specs.Ends.{ends}
 use Rattle.ends.proofs.EndsLaws.{best-numbers}
 use Rattle.board_text.specs.Board.{lines, board_as, board_of, board_by, board_text, Printed}
@@ -49,7 +56,7 @@ module _ (b : Book) (flags s : ℕ) where
   pub board_refused : b.count ≤ s → board_of (accepted b) flags s ≡ refusal_text (numbered 7 0)
   board_refused h = ap (λ x. board_as (refusal_by (test 7 x ∷ [])) b flags s) (le-ltb s b.count h)
 
-  pub board_lines : s < b.count → board_of (accepted b) flags s ≡ lines (graph b) (known flags b.sets) s b.count
+  board_lines : s < b.count → board_of (accepted b) flags s ≡ lines (graph b) (known flags b.sets) s b.count
   board_lines h = ap (λ x. board_as (refusal_by (test 7 x ∷ [])) b flags s) (lt-ltb s b.count h)
 
 -- The text for an input that is not refused, from the table of ends of its book.
@@ -61,14 +68,35 @@ board_text_lem s b long read start =
     ∙ board_lines b (u16_at s 0) (get_or s 2 0) start
     ∙ sym (book-lines b (reading-is-book (drop 3 s) b read).well_formed (u16_at s 0) (get_or s 2 0) _ _ _ [] refl refl (sym (append-nil (ends (graph b) (known (u16_at s 0) b.sets) (get_or s 2 0) b.count))))
 
--- ---- where the text stands
-pub wrote_printed : (s : List ℕ) {old : List ℕ} {r : ℕ} {new : List ℕ} → Wrote (board_text s) 0 old r new → Printed s old r new
-wrote_printed s w = let front = wrote-front w in record { length-is = front.0; bytes_are = front.1 }
+-- The text for an input, from the book in it that was loaded, and the table that is filled under its known paths.
+module _ (s : List ℕ) (l : Loaded) (long : 3 ≤ length s) (f : LoadedFrom (take (length s - 3) (drop 3 s)) l) where
+  read : reading (drop 3 s) ≡ reading (take (length s - 3) (drop 3 s))
+  read = ap reading (sym (take_all (length s - 3) (drop 3 s) (omega (arith, length-drop 3 s))))
 
--- The text's bytes are within the buffer.
-module _ (s old : List ℕ) (r : ℕ) (new : List ℕ) (p : Printed s old r new) where
-  pub printed_size : r ≡ length (take r new)
-  printed_size = front-size (board_text s) old p.length-is p.bytes_are
+  pub filled_text : get_or s 2 0 < l.counts.vertices → (flags : ℕ) → flags ≡ u16_at s 0
+      → (n : ℕ) (area : List ℕ) → (n ≡ length (known flags f.book.sets)) × (area ≡ written (known flags f.book.sets))
+      → (v : ℕ) (w : List ℕ) → v ≡ l.counts.vertices → w ≡ l.weights
+      → (old new : List ℕ) → ((b : Book) → IsGraph b v w → new ≡ ends (graph b) (spelled n area) (get_or s 2 0) v ++ drop (2 * v) old)
+      → board_text s ≡ table_lines new l.counts.vertices
+  filled_text start flags flags-are n area gathered v w v-is w-is old new filled =
+      let b = f.book in
+      let well = f.tables.graph.well in
+      let vertices = f.tables.graph.vertices_are in
+      ap (λ x. board_by x s) (le-leb 3 (length s) long)
+      ∙ ap (λ x. board_of x (u16_at s 0) (get_or s 2 0)) (read ∙ f.is)
+      ∙ ap (λ m. board_of (accepted b) m (get_or s 2 0)) (sym flags-are)
+      ∙ board_lines b flags (get_or s 2 0) (omega arith)
+      ∙ sym (book-lines b well flags (get_or s 2 0) (spelled n area) l.counts.vertices new (drop (2 * v) old)
+      (gathered_spells flags b well gathered.0 gathered.1) vertices
+      (filled b (subst₂ (IsGraph b) (sym v-is) (sym w-is) f.tables.graph) ∙ ap (λ k. ends (graph b) (spelled n area) (get_or s 2 0) k ++ drop (2 * v) old) v-is))
 
-  pub printed_within : r ≤ length new
-  printed_within = front-within (board_text s) old p.length-is p.bytes_are
+-- ---- where the text stands: alone in its buffer
+pub wrote_printed : (s : List ℕ) {old new : List ℕ} → old ≡ [] → Wrote (board_text s) old new → length new ≤ longest_text → Printed s new
+wrote_printed s blank w short = record { bytes_are = (wrote-front (board_text s) blank w).1; within = short }
+
+module _ (s : List ℕ) (out : ArrayVec ℕ) (p : Printed s out.items) where
+  pub printed_size : array_vec_len out ≡ length (board_text s)
+  printed_size = ap length p.bytes_are
+
+  pub printed_within : array_vec_len out ≤ longest_text
+  printed_within = p.within

@@ -1,6 +1,6 @@
 -- The laws of what specs/Lines.antt defines.
 use Prim.Native.Nat.{ℕ, zero, suc, ◌+◌, ◌*◌, ◌<◌}
-use Rattle.std.specs.Prelude.{◌≡◌, Bool, true, false, cond, List, [], ◌++◌, eqb, get_or}
+use Rattle.std.specs.Prelude.{◌≡◌, Bool, true, false, cond, List, [], ◌∷◌, ◌++◌, eqb, get_or}
 use Rattle.std.proofs.Math.Path.{refl, ap₂}
 use Rattle.std.proofs.Common.{sym, ap, ◌∙◌, append_assoc, arith, add-one, eq-eqb, ne_eqb}
 use Rattle.std.proofs.Math.Option.{Option, none, some}
@@ -12,17 +12,17 @@ use Rattle.text.specs.Text.{decimal, cost_text, none_text}
 use Rattle.ends.specs.Ends.{no_end, entry_of, ends}
 use Rattle.ends.proofs.EndsLaws.{length-ends, ends-weight, ends-hops}
 use Rattle.board_text.specs.Board.{end_text, line_of, lines}
-use Rattle.board_text.specs.Lines.{blank, entry_text, entry_line, table_lines, Light}
+use Rattle.board_text.specs.Lines.{entry_text, entry_line, table_lines, Light}
 
 -- It follows the vertex and a blank.
 module _ (v a b : ℕ) where
-  followed : (x : Bool) (text : List ℕ) → eqb a no_end ≡ x → cond x none_text (cost_text a b) ≡ text → decimal v ++ blank ++ text ≡ entry_line v a b
-  followed x text e is = append_assoc (decimal v) blank text ∙ ap (line_of v) (sym (ap (λ y. cond y none_text (cost_text a b)) e ∙ is))
+  followed : (x : Bool) (text : List ℕ) → eqb a no_end ≡ x → cond x none_text (cost_text a b) ≡ text → decimal v ++ (32 ∷ []) ++ text ≡ entry_line v a b
+  followed x text e is = append_assoc (decimal v) (32 ∷ []) text ∙ ap (line_of v) (sym (ap (λ y. cond y none_text (cost_text a b)) e ∙ is))
 
-  pub none_line : a ≡ no_end → decimal v ++ blank ++ none_text ≡ entry_line v a b
+  pub none_line : a ≡ no_end → decimal v ++ (32 ∷ []) ++ none_text ≡ entry_line v a b
   none_line e = followed true none_text (eq-eqb a no_end e) refl
 
-  pub cost_line : (a ≡ no_end → ⊥) → decimal v ++ blank ++ cost_text a b ≡ entry_line v a b
+  pub cost_line : (a ≡ no_end → ⊥) → decimal v ++ (32 ∷ []) ++ cost_text a b ≡ entry_line v a b
   cost_line n = followed false (cost_text a b) (ne_eqb a no_end n) refl
 
 pub table_none : (t : List ℕ) → table_lines t 0 ≡ []

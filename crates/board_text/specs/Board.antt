@@ -1,5 +1,5 @@
 -- What the program `board` prints for its input (02, order 1): marks in two bytes (high byte first), start, and a book.
-use Rattle.std.specs.Prelude.{ℕ, zero, suc, ◌≡◌, Bool, true, false, List, [], ◌∷◌, ◌++◌, leb, ltb, length, get_or, drop}
+use Rattle.std.specs.Prelude.{ℕ, zero, suc, ◌≤◌, ◌≡◌, Bool, true, false, List, [], ◌∷◌, ◌++◌, leb, ltb, length, get_or, drop}
 use Rattle.std.proofs.Math.Option.{Option, none, some}
 use Rattle.walks.specs.Graph.{Graph}
 use Rattle.walks.specs.Walk.{weight_of, hops}
@@ -9,7 +9,7 @@ use Rattle.book.specs.Refusal.{Test, test, numbered}
 use Rattle.book.specs.Book.{Book, graph}
 use Rattle.book.specs.Reading.{Reading, reading, refusal_of, book_in, u16_at}
 use Rattle.rules.specs.Binding.{known}
-use Rattle.text.specs.Text.{decimal, cost_text, none_text, refusal_text}
+use Rattle.text.specs.Text.{longest_text, decimal, cost_text, none_text, refusal_text}
 
 -- The best walk to a vertex, or that there is none.
 abbrev pub end_text : Graph → Option (List ℕ) → List ℕ
@@ -45,7 +45,7 @@ board_by false s = refusal_text (numbered 1 0)
 abbrev pub board_text : List ℕ → List ℕ
 board_text s = board_by (leb 3 (length s)) s
 
--- The text stands in the front of the buffer, r bytes long; the bytes after it are as they were.
-pub record Printed (s old : List ℕ) (r : ℕ) (new : List ℕ) : Type 0 where
-  pub length-is : r ≡ length (board_text s)
-  pub bytes_are : new ≡ board_text s ++ drop r old
+-- What is answered is that text, and no byte more; it is no longer than the buffer for it.
+pub record Printed (s out : List ℕ) : Type 0 where
+  pub bytes_are : out ≡ board_text s
+  pub within : length out ≤ longest_text

@@ -1,15 +1,12 @@
 -- The lines, read off a table of ends: they are those of the best walks.
 use Prim.Native.Nat.{ℕ, zero, suc, ◌+◌, ◌*◌, ◌<◌}
-use Rattle.std.specs.Prelude.{cond, List, [], ◌∷◌, ◌++◌, eqb, get_or}
+use Rattle.std.specs.Prelude.{cond, List, [], ◌++◌, eqb, get_or}
 use Rattle.std.proofs.Math.Option.{Option, none, some}
 use Rattle.walks.specs.Graph.{Graph}
 use Rattle.walks.specs.Walk.{weight_of}
 use Rattle.text.specs.Text.{cost_text, none_text}
 use Rattle.ends.specs.Ends.{no_end}
 use Rattle.board_text.specs.Board.{line_of}
-
-abbrev pub blank : List ℕ
-blank = 32 ∷ []
 
 -- The text of an entry with the numbers a and b.
 abbrev pub entry_text : ℕ → ℕ → List ℕ

@@ -1,39 +1,40 @@
--- What a field adds: to the lists that a book's tables stand for, and to its counts.
-use Prim.Native.Nat.{ℕ, suc, ◌+◌, ◌-◌, ◌≤◌, ◌<◌}
-use mathlib.Core.Path.{◌≡◌, refl, sym, ap, ap₂, ◌∙◌}
-use mathlib.Core.List.{List, [], ◌∷◌, ◌++◌, append-nil, append_assoc}
-use native.Mathlib.Nat.{add-zero}
-use native.Mathlib.Omega.{arith}
-use lib.ListN.{length, set, replicate, length-append, length-map, replicate-append-replicate}
+-- What a rule set and a path add: to the lists that a book's tables stand for, and to what stands for the book.
+use Rattle.std.proofs.Common.{◌≡◌, ℕ, suc, ◌+◌, ◌-◌, ◌*◌, ◌≤◌, ◌<◌, true, List, [], ◌∷◌, ◌++◌, length, set, take, drop, replicate, Some, Ok, refl, sym, ap, ap₂, ◌∙◌, append-nil, append_assoc, add-zero, arith, length-append, lt-ltb}
+use Rattle.std.proofs.lemmas.List.{length-map, replicate-append-replicate}
+use Rattle.std.proofs.Math.Seq.{paste}
+use Rattle.lists.specs.Paste.{slice_part}
+use Rattle.limits.specs.Limits.{area_size, entry_size, longest_path, most_paths, most_sets}
 use Rattle.book.specs.declared.Counts.{Counts}
-use Rattle.book.specs.declared.Kind.TheVariants.{VertexCount, Arc, RuleSet, Path}
-use Rattle.book.specs.Book.{RuleSet as Book-as-RuleSet, Book, all_paths, counts}
-use Rattle.book.specs.Reading.{count_at, arc_at, flags_at, path_at, extended, add_path}
-use Rattle.book.specs.Tables.{flags_of, owners_from, padded, flag_table}
+use Rattle.book.specs.declared.Loaded.{Loaded}
+use Rattle.book.specs.declared.Kind.{Kind}
+use Rattle.book.specs.Book.{RuleSet, Book, All, all_paths, are_vertices}
+use Rattle.book.specs.Reading.{flags_at, path_at, end_at, length_at, taken, add_path}
+use Rattle.book.specs.Tables.{flags_of, owners_from, entries, padded, flag_table, owner_table, path_table, IsLoaded, AreTables, Leaves}
 use Rattle.book.specs.BookLaws.{bare, paths-set}
-use Rattle.book.proofs.BookLaws.{length-sets-path, paths-path}
-use Rattle.book.proofs.Padded.{padded-set}
+use Rattle.book.proofs.BookLaws.{all_map, length-sets-path, paths-path}
+use Rattle.book.proofs.EntryLaws.{length_owners, entries_snoc, length-entries}
+use Rattle.book.proofs.Padded.{padded-set, padded-entry}
 
 -- ---- a rule set
 module _ (f : ℕ) where
-  pub flags-set : (ss : List Book-as-RuleSet) → flags_of (ss ++ bare f) ≡ flags_of ss ++ (f ∷ [])
+  pub flags-set : (ss : List RuleSet) → flags_of (ss ++ bare f) ≡ flags_of ss ++ (f ∷ [])
   flags-set [] = refl
   flags-set (s ∷ ss) = ap (λ l. s.flags ∷ l) (flags-set ss)
 
-  pub owners_set : (k : ℕ) (ss : List Book-as-RuleSet) → owners_from k (ss ++ bare f) ≡ owners_from k ss
+  pub owners_set : (k : ℕ) (ss : List RuleSet) → owners_from k (ss ++ bare f) ≡ owners_from k ss
   unfolding owners_from
   owners_set k [] = refl
   owners_set k (s ∷ ss) = ap (λ l. replicate (length s.paths) k ++ l) (owners_set (suc k) ss)
 
 -- ---- a path
 module _ (p : List ℕ) where
-  pub flags-path : (ss : List Book-as-RuleSet) → flags_of (add_path ss p) ≡ flags_of ss
+  pub flags-path : (ss : List RuleSet) → flags_of (add_path ss p) ≡ flags_of ss
   unfolding add_path
   flags-path [] = refl
   flags-path (s ∷ []) = refl
   flags-path (s ∷ (s' ∷ ss)) = ap (λ l. s.flags ∷ l) (flags-path (s' ∷ ss))
 
-  pub owners_path : (k : ℕ) (ss : List Book-as-RuleSet) → 1 ≤ length ss
+  pub owners_path : (k : ℕ) (ss : List RuleSet) → 1 ≤ length ss
       → owners_from k (add_path ss p) ≡ owners_from k ss ++ ((k + (length ss - 1)) ∷ [])
   unfolding owners_from add_path
   owners_path k [] h = absurd (omega arith)
@@ -48,40 +49,102 @@ module _ (p : List ℕ) where
       ∙ ap (λ j. replicate (length s.paths) k ++ owners_from (suc k) (s' ∷ ss) ++ (j ∷ [])) (omega arith)
 
 -- ---- the tables
-pub flags-after-set : (t : List ℕ) (k x f : ℕ) (ss : List Book-as-RuleSet) → length ss < 16 → t ≡ flag_table ss → k ≡ length ss → x ≡ f
+pub flags-after-set : (t : List ℕ) (k x f : ℕ) (ss : List RuleSet) → length ss < most_sets → t ≡ flag_table ss → k ≡ length ss → x ≡ f
     → set t k x ≡ flag_table (ss ++ bare f)
 flags-after-set t k x f ss few held at-end value =
     ap₂ (λ u j. set u j x) held (at-end ∙ sym (length-map ss _))
-    ∙ ap (λ y. set (padded 16 (flags_of ss)) (length (flags_of ss)) y) value
-    ∙ padded-set 16 (flags_of ss) f (omega (arith, length-map ss (λ (s : Book-as-RuleSet). s.flags)))
-    ∙ ap (padded 16) (sym (flags-set f ss))
+    ∙ ap (λ y. set (padded most_sets (flags_of ss)) (length (flags_of ss)) y) value
+    ∙ padded-set most_sets (flags_of ss) f (omega (arith, length-map ss (λ (s : RuleSet). s.flags)))
+    ∙ ap (padded most_sets) (sym (flags-set f ss))
 
--- ---- the counts
-module _ (c : Counts) (s : List ℕ) (b : Book) (at : ℕ) (so_far : c ≡ counts b) where
-  pub counts-count : (n : ℕ) → n ≡ count_at s at
-      → record { vertices = n; arcs = c.arcs; sets = c.sets; paths = c.paths } ≡ counts (extended VertexCount s b at)
-  counts-count n e = ap₂ (λ (m : ℕ) (d : Counts). record { vertices = m; arcs = d.arcs; sets = d.sets; paths = d.paths }) e so_far
+-- the owner right after the others'
+owner_added : (o : List ℕ) (k x : ℕ) (ss : List RuleSet) (p : List ℕ) → 1 ≤ length ss → o ≡ owner_table ss → k ≡ length (all_paths ss) → k < most_paths → x ≡ length ss - 1
+    → set o k x ≡ owner_table (add_path ss p)
+owner_added o k x ss p some-set held count room value =
+    let size = length_owners 0 ss in
+    ap₂ (λ l j. set l j x) held (count ∙ sym size)
+    ∙ padded-set most_paths (owners_from 0 ss) x (omega (arith, size))
+    ∙ ap (λ y. padded most_paths (owners_from 0 ss ++ (y ∷ []))) (let last : x ≡ 0 + (length ss - 1) = omega arith in last)
+    ∙ ap (padded most_paths) (sym (owners_path p 0 ss some-set))
 
-  pub counts-arc :
-      record { vertices = c.vertices; arcs = c.arcs + 1; sets = c.sets; paths = c.paths } ≡ counts (extended Arc s b at)
-  counts-arc =
-      ap (λ (d : Counts). record { vertices = d.vertices; arcs = d.arcs + 1; sets = d.sets; paths = d.paths }) so_far
-      ∙ ap (λ n. record { vertices = b.count; arcs = n; sets = length b.sets; paths = length (all_paths b.sets) })
-      (sym (length-append b.arcs (arc_at s at ∷ [])))
+-- the entry right after the others
+entry-added : (e : List ℕ) (k n : ℕ) (ss : List RuleSet) (p : List ℕ) → 1 ≤ length ss → e ≡ path_table ss → k ≡ length (all_paths ss) → k < most_paths
+    → All (λ q. length q ≤ longest_path) (all_paths ss) → n ≡ length p → n ≤ longest_path
+    → paste (set e (k * entry_size) n) (k * entry_size + 1) p n ≡ path_table (add_path ss p)
+entry-added e k n ss p some-set held count room short size small =
+    let all : List ℕ = entries (all_paths ss) in
+    let length-all : k * entry_size ≡ length all = omega (arith, length-entries (all_paths ss) short) in
+    ap (λ l. paste (set l (k * entry_size) n) (k * entry_size + 1) p n) held
+    ∙ ap₂ (λ j m. paste (set (padded area_size all) j m) (j + 1) p m) length-all size
+    ∙ padded-entry area_size all p (omega arith) (omega arith)
+    ∙ ap (padded area_size) (sym (entries_snoc (all_paths ss) p) ∙ ap entries (sym (paths-path p ss some-set)))
 
-  pub counts-set :
-      record { vertices = c.vertices; arcs = c.arcs; sets = c.sets + 1; paths = c.paths } ≡ counts (extended RuleSet s b at)
-  counts-set =
-      ap (λ (d : Counts). record { vertices = d.vertices; arcs = d.arcs; sets = d.sets + 1; paths = d.paths }) so_far
-      ∙ ap₂ (λ n m. record { vertices = b.count; arcs = length b.arcs; sets = n; paths = m })
-      (sym (length-append b.sets (bare (flags_at s at))))
-      (sym (ap length (paths-set (flags_at s at) b.sets)))
+-- ---- what stands for the book then
+module _ (l : Loaded) (s : List ℕ) (b : Book) (at : ℕ) (h : IsLoaded b l) where
+  sets-are : l.counts.sets ≡ length b.sets
+  sets-are = ap (λ (d : Counts). d.sets) h.counted
 
-  pub counts-path : 1 ≤ c.sets
-      → record { vertices = c.vertices; arcs = c.arcs; sets = c.sets; paths = c.paths + 1 } ≡ counts (extended Path s b at)
-  counts-path h =
-      let some-set : 1 ≤ length b.sets = omega (arith, ap (λ (d : Counts). d.sets) so_far) in
-      ap (λ (d : Counts). record { vertices = d.vertices; arcs = d.arcs; sets = d.sets; paths = d.paths + 1 }) so_far
-      ∙ ap₂ (λ n m. record { vertices = b.count; arcs = length b.arcs; sets = n; paths = m })
-      (sym (length-sets-path (path_at s at) b.sets))
-      (sym (ap length (paths-path (path_at s at) b.sets some-set) ∙ length-append (all_paths b.sets) (path_at s at ∷ [])))
+  paths_are : l.counts.paths ≡ length (all_paths b.sets)
+  paths_are = ap (λ (d : Counts). d.paths) h.counted
+
+  pub set-added : (x : ℕ) → x ≡ flags_at s at → l.counts.sets < most_sets
+      → Leaves AreTables (taken (Some Kind.RuleSet) s b at)
+      (Ok (record {
+        counts = record { vertices = l.counts.vertices; arcs = l.counts.arcs; sets = l.counts.sets + 1; paths = l.counts.paths };
+        weights = l.weights;
+        flags = set l.flags l.counts.sets x;
+        owners = l.owners;
+        entries = l.entries;
+      }))
+  set-added x e room =
+      let few : length b.sets < most_sets = omega (arith, sets-are) in
+      rw (lt-ltb (length b.sets) most_sets few)
+      (record {
+        counts_are =
+            ap (λ (d : Counts). record { vertices = d.vertices; arcs = d.arcs; sets = d.sets + 1; paths = d.paths }) h.counted
+            ∙ ap₂ (λ n m. record { vertices = b.count; arcs = length b.arcs; sets = n; paths = m })
+            (sym (length-append b.sets (bare (flags_at s at))))
+            (sym (ap length (paths-set (flags_at s at) b.sets)));
+        weights_are = h.graph.weights_are;
+        flags_are = flags-after-set l.flags l.counts.sets x (flags_at s at) b.sets few h.sets.flags_are sets-are e;
+        owners_are = h.sets.owners_are ∙ ap (padded most_paths) (sym (owners_set (flags_at s at) 0 b.sets));
+        paths_are = h.sets.paths_are ∙ ap (λ ps. padded area_size (entries ps)) (sym (paths-set (flags_at s at) b.sets));
+      })
+
+  pub path_part : (end : ℕ) → end ≡ end_at s at → end_at s at ≤ length s → take (end - (at + 3)) (drop (at + 3) s) ≡ path_at s at
+  path_part end is whole =
+      let size : end - (at + 3) ≡ length_at s at = omega arith in
+      ap (λ n. take n (drop (at + 3) s)) size ∙ sym (slice_part (at + 3) (length_at s at) s whole)
+
+  pub path-added : (p : List ℕ) → p ≡ path_at s at → are_vertices l.counts.vertices p ≡ true → l.counts.paths < most_paths → 1 ≤ l.counts.sets
+      → length p ≤ longest_path → (e : List ℕ)
+      → e ≡ paste (set l.entries (l.counts.paths * entry_size) (length p)) (l.counts.paths * entry_size + 1) p (length p)
+      → Leaves AreTables (taken (Some Kind.Path) s b at)
+      (Ok (record {
+        counts = record { vertices = l.counts.vertices; arcs = l.counts.arcs; sets = l.counts.sets; paths = l.counts.paths + 1 };
+        weights = l.weights;
+        flags = l.flags;
+        owners = set l.owners l.counts.paths (l.counts.sets - 1);
+        entries = e;
+      }))
+  path-added p is vertices room some short e copied =
+      let some-set : 1 ≤ length b.sets = omega (arith, sets-are) in
+      let owner : l.counts.sets - 1 ≡ length b.sets - 1 = omega (arith, sets-are) in
+      let good : are_vertices b.count (path_at s at) ≡ true = ap₂ are_vertices (sym h.graph.vertices_are) (sym is) ∙ vertices in
+      let few : length (all_paths b.sets) < most_paths = omega (arith, paths_are) in
+      rw (good, lt-ltb (length (all_paths b.sets)) most_paths few)
+      (record {
+        counts_are =
+            ap (λ (d : Counts). record { vertices = d.vertices; arcs = d.arcs; sets = d.sets; paths = d.paths + 1 }) h.counted
+            ∙ ap₂ (λ n m. record { vertices = b.count; arcs = length b.arcs; sets = n; paths = m })
+            (sym (length-sets-path (path_at s at) b.sets))
+            (sym (ap length (paths-path (path_at s at) b.sets some-set) ∙ length-append (all_paths b.sets) (path_at s at ∷ [])));
+        weights_are = h.graph.weights_are;
+        flags_are = h.sets.flags_are ∙ ap (padded most_sets) (sym (flags-path (path_at s at) b.sets));
+        owners_are = owner_added l.owners l.counts.paths _ b.sets (path_at s at) some-set h.sets.owners_are paths_are room owner;
+        paths_are =
+            copied
+            ∙ ap (λ q. paste (set l.entries (l.counts.paths * entry_size) (length p)) (l.counts.paths * entry_size + 1) q (length p)) is
+            ∙ entry-added l.entries l.counts.paths (length p) b.sets (path_at s at) some-set h.sets.paths_are paths_are room
+            (all_map (λ q k. k.eight) (all_paths b.sets) h.graph.well.paths-proper) (ap length is) short;
+      })

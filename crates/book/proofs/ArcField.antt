@@ -1,40 +1,27 @@
 -- An arc that is entered, by what its tests and the table of weights say; and the field of an arc.
-use Prim.Native.Nat.{ℕ, ◌+◌, ◌*◌, ◌<◌, ◌≤◌}
-use mathlib.Core.Path.{◌≡◌, refl, sym, ap, subst, ◌∙◌}
-use mathlib.Core.Bool.{Bool, true, false}
-use mathlib.Core.List.{List}
-use mathlib.Core.Option.{Option, none, some}
-use native.Mathlib.Omega.{arith}
-use lib.ListN.{get_or, set}
-use Rattle.book.specs.declared.Answer.{Answer}
-use Rattle.book.specs.declared.Answer.TheVariants.{Read, Refused}
-use Rattle.book.specs.declared.Verdict.{Verdict}
-use Rattle.book.specs.declared.Verdict.TheVariants.{Good}
-use Rattle.book.specs.declared.Refusal.{Refusal}
-use Rattle.book.specs.declared.Counts.{Counts}
-use Rattle.book.specs.declared.Kind.TheVariants.{Arc}
-use Rattle.book.specs.declared.Refusal.TheVariants.{Value, Repeated}
-use Rattle.walks.specs.Graph.{Arc as Book-as-Arc}
-use Rattle.book.specs.Refusal.{first_failure}
-use Rattle.book.specs.Book.{Book, IsArc, counts, proper_arc}
-use Rattle.book.proofs.BookLaws.{is-arc}
-use Rattle.book.specs.Reading.{Reading, accepted, refused, outcome, read_as, verdict_of, arc_at, arc_tests, add_arc, with_arc, taken, kept}
-use Rattle.book.proofs.TableLaws.{entered-arc, marked→free, unmarked→given}
-use Rattle.book.specs.Tables.{IsGraph, Enters, weight_table}
+use Rattle.std.proofs.Common.{◌≡◌, ℕ, ◌+◌, ◌*◌, ◌<◌, ◌≤◌, Bool, true, List, [], ◌∷◌, length, get_or, set, Some, Ok, Err, refl, sym, ap, ap₂, subst, ◌∙◌, arith, length-append}
+use Rattle.std.proofs.Math.Option.{Option, none, some}
 use Rattle.limits.specs.Limits.{most_vertices, no_arc}
-use Rattle.book.proofs.Added.{counts-arc}
+use Rattle.walks.specs.Graph.{Arc}
+use Rattle.book.specs.declared.Counts.{Counts}
+use Rattle.book.specs.declared.Kind.{Kind}
+use Rattle.book.specs.declared.Loaded.{Loaded}
+use Rattle.book.specs.declared.Refusal.{Refusal}
+use Rattle.book.specs.declared.Refusal.TheVariants.{Repeated}
+use Rattle.book.specs.Refusal.{first_failure}
+use Rattle.book.specs.Book.{Book, IsArc, all_paths, proper_arc}
+use Rattle.book.proofs.BookLaws.{is-arc}
+use Rattle.book.specs.Reading.{Reading, accepted, refused, outcome, verdict_of, u32_at, arc_at, arc_tests, add_arc, with_arc, taken, kept}
+use Rattle.book.proofs.TableLaws.{entered-arc, marked→free, unmarked→given}
+use Rattle.book.specs.Tables.{IsGraph, IsLoaded, AreTables, Leaves, Enters, weight_table}
 
--- ---- an arc after a book
-module _ (n : ℕ) (b : Book) (t : List ℕ) (h : IsGraph b n t) (at : ℕ) (a : Book-as-Arc) where
+module _ (n : ℕ) (b : Book) (t : List ℕ) (h : IsGraph b n t) (at : ℕ) (a : Arc) where
   proper-is : (x : Bool) → proper_arc n a ≡ x → proper_arc b.count a ≡ x
   proper-is x e = ap (λ k. proper_arc k a) (sym h.vertices_are) ∙ e
 
   -- a refusal leaves the table as it is
-  left : (r : Refusal) → with_arc b at a ≡ refused r → Enters b at a (Verdict.Refused r) t
-  left r is = (sym (ap verdict_of is), h.weights_are ∙ ap (λ x. weight_table (kept b x).arcs) (sym is))
-
-  pub arc_improper : proper_arc n a ≡ false → Enters b at a (Verdict.Refused (Value at)) t
-  arc_improper e = left (Value at) (rw (proper-is false e))
+  stays : (r : Refusal) → with_arc b at a ≡ refused r → Enters b at a (Err r) t
+  stays r is = (sym (ap verdict_of is), h.weights_are ∙ ap (λ x. weight_table (kept b x).arcs) (sym is))
 
   module _ (p : proper_arc n a ≡ true) where
     within : IsArc n a
@@ -49,47 +36,65 @@ module _ (n : ℕ) (b : Book) (t : List ℕ) (h : IsGraph b n t) (at : ℕ) (a :
     head-fits : a.head < most_vertices
     head-fits = omega (arith, within.head-below, few)
 
-    abbrev entry : List ℕ → ℕ
-    entry l = get_or l (a.tail * most_vertices + a.head) 0
+    module _ (i : ℕ) (at-pair : i ≡ a.tail * most_vertices + a.head) where
+      in_table : get_or t i 0 ≡ get_or (weight_table b.arcs) (a.tail * most_vertices + a.head) 0
+      in_table = ap₂ (λ l k. get_or l k 0) h.weights_are at-pair
 
-    pub arc-repeated : (entry t ≡ no_arc → ⊥) → Enters b at a (Verdict.Refused (Repeated at)) t
-    arc-repeated ne =
-        let seen = unmarked→given b h.well _ _ tail-fits head-fits (λ e. ne (ap entry h.weights_are ∙ e)) in
-        left (Repeated at) (rw (proper-is true p, seen))
+      pub arc-repeated : (get_or t i 0 ≡ no_arc → ⊥) → Enters b at a (Err (Repeated at)) t
+      arc-repeated ne =
+          let seen = unmarked→given b h.well _ _ tail-fits head-fits (λ e. ne (in_table ∙ e)) in
+          stays (Repeated at) (rw (proper-is true p, seen))
 
-    pub arc-added : entry t ≡ no_arc → Enters b at a Good (set t (a.tail * most_vertices + a.head) a.weight)
-    arc-added e =
-        let new = marked→free b h.well _ _ tail-fits head-fits (ap entry (sym h.weights_are) ∙ e) in
-        let is : with_arc b at a ≡ accepted (add_arc b a) = rw (proper-is true p, new) in (
-          sym (ap verdict_of is),
-          ap (λ l. set l (a.tail * most_vertices + a.head) a.weight) h.weights_are
-              ∙ sym (entered-arc _ b.arcs a)
-              ∙ ap (λ x. weight_table (kept b x).arcs) (sym is),
-        )
+      pub arc-added : get_or t i 0 ≡ no_arc → Enters b at a (Ok tt) (set t i a.weight)
+      arc-added e =
+          let new = marked→free b h.well _ _ tail-fits head-fits (sym in_table ∙ e) in
+          let is : with_arc b at a ≡ accepted (add_arc b a) = rw (proper-is true p, new) in (
+            sym (ap verdict_of is),
+            ap₂ (λ l k. set l k a.weight) h.weights_are at-pair
+                ∙ sym (entered-arc _ b.arcs a)
+                ∙ ap (λ x. weight_table (kept b x).arcs) (sym is),
+          )
 
 -- ---- the field of one
-abbrev answer_of : Verdict → Counts → Answer
-answer_of Good c = Read c
-answer_of (Verdict.Refused r) c = Refused r
+pub arc-read : (s : List ℕ) (at tail head weight : ℕ) → tail ≡ get_or s (at + 3) 0 → head ≡ get_or s (at + 4) 0 → weight ≡ u32_at s (at + 5)
+    → record { tail = tail; head = head; weight = weight } ≡ arc_at s at
+arc-read s at tail head weight t h w = rw (t, h, w) refl
 
-answered : (b : Book) (x : Reading) → answer_of (verdict_of x) (counts (kept b x)) ≡ read_as x
-answered b (accepted d) = refl
-answered b (refused r) = refl
+refusal-told : (x : Reading) (r : Refusal) → Err r ≡ verdict_of x → Leaves AreTables x (Err r)
+refusal-told (accepted b) r e = absurd (cc)
+refusal-told (refused q) r e = cc
 
-good_adds : (o : Option Refusal) (d : Book) → Good ≡ verdict_of (outcome o d) → outcome o d ≡ accepted d
-good_adds none d e = refl
-good_adds (some r) d e = let z : ◌≡◌ {A = ℕ} 0 1 = cc in absurd (omega arith)
+good-adds : (o : Option Refusal) (d : Book) → Ok tt ≡ verdict_of (outcome o d) → outcome o d ≡ accepted d
+good-adds none d e = refl
+good-adds (some r) d e = absurd (cc)
 
-module _ (s : List ℕ) (b : Book) (at : ℕ) (a : Book-as-Arc) (read : a ≡ arc_at s at) (v : Verdict) (t : List ℕ) (enters : Enters b at a v t) where
-  here : Enters b at (arc_at s at) v t
-  here = subst (λ x. Enters b at x v t) read enters
+module _ (l : Loaded) (s : List ℕ) (b : Book) (at : ℕ) (h : IsLoaded b l) (a : Arc) (read : a ≡ arc_at s at) (t : List ℕ) where
+  pub field-refused : (r : Refusal) → Enters b at a (Err r) t → Leaves AreTables (taken (Some Kind.Arc) s b at) (Err r)
+  field-refused r enters =
+      let here : Enters b at (arc_at s at) (Err r) t = subst (λ x. Enters b at x (Err r) t) read enters in
+      refusal-told (taken (Some Kind.Arc) s b at) r here.0
 
-  pub field-refused : (r : Refusal) → v ≡ Verdict.Refused r → (Refused r ≡ read_as (taken Arc s b at)) × (t ≡ weight_table (kept b (taken Arc s b at)).arcs)
-  field-refused r e = (ap (λ x. answer_of x (counts (kept b (taken Arc s b at)))) (sym e ∙ here.0) ∙ answered b (taken Arc s b at), here.1)
-
-  pub field-added : (c : Counts) → c ≡ counts b → v ≡ Good
-      → (Read (record { vertices = c.vertices; arcs = c.arcs + 1; sets = c.sets; paths = c.paths }) ≡ read_as (taken Arc s b at))
-      × (t ≡ weight_table (kept b (taken Arc s b at)).arcs)
-  field-added c so_far e =
-      let is = good_adds (first_failure (arc_tests b at (arc_at s at))) (add_arc b (arc_at s at)) (sym e ∙ here.0) in
-      (ap Read (counts-arc c s b at so_far) ∙ sym (ap read_as is), here.1)
+  pub field-added : Enters b at a (Ok tt) t
+      → Leaves AreTables (taken (Some Kind.Arc) s b at)
+      (Ok (record {
+        counts = record { vertices = l.counts.vertices; arcs = l.counts.arcs + 1; sets = l.counts.sets; paths = l.counts.paths };
+        weights = t;
+        flags = l.flags;
+        owners = l.owners;
+        entries = l.entries;
+      }))
+  field-added enters =
+      let here : Enters b at (arc_at s at) (Ok tt) t = subst (λ x. Enters b at x (Ok tt) t) read enters in
+      let is : with_arc b at (arc_at s at) ≡ accepted (add_arc b (arc_at s at)) =
+      good-adds (first_failure (arc_tests b at (arc_at s at))) (add_arc b (arc_at s at)) here.0 in
+      rw is
+      (record {
+        counts_are =
+            ap (λ (d : Counts). record { vertices = d.vertices; arcs = d.arcs + 1; sets = d.sets; paths = d.paths }) h.counted
+            ∙ ap (λ n. record { vertices = b.count; arcs = n; sets = length b.sets; paths = length (all_paths b.sets) })
+            (sym (length-append b.arcs (arc_at s at ∷ [])));
+        weights_are = here.1 ∙ ap (λ x. weight_table (kept b x).arcs) is;
+        flags_are = h.sets.flags_are;
+        owners_are = h.sets.owners_are;
+        paths_are = h.sets.paths_are;
+      })

@@ -1,6 +1,7 @@
 -- The laws of what specs/BookLaws.antt defines.
 use Prim.Native.Nat.{ℕ, zero, suc, ◌+◌, ◌-◌, ◌≤◌, ◌<◌}
-use Rattle.std.specs.Prelude.{◌≡◌, Bool, true, false, cond, not, ◌&&◌, ◌||◌, eqb, leb, ltb, length}
+use Rattle.std.specs.Prelude
+use Rattle.std.specs.Prelude.{◌≡◌, Bool, true, false, cond, not, ◌&&◌, ◌||◌, eqb, leb, ltb, length, Some, None, Ok, Err}
 use Rattle.std.proofs.Math.Path.{refl, sym, ap, fun_ext}
 use Rattle.std.proofs.Common.{ap₂, subst, ◌∙◌, ⊎_elim, true≢false, zero-add, suc-add, arith, ltb-true, leb-true, le-leb, eqb-true, eq-eqb, ne_eqb, lt-ltb, le-ltb, length-append}
 use Rattle.std.proofs.lemmas.Bool.{false≢true, eqb-false, not-true}
@@ -10,10 +11,9 @@ use Rattle.std.proofs.Math.Option.{Option, none, some}
 use Rattle.std.proofs.Math.Seq.{length-slice}
 use Rattle.limits.specs.Limits.{longest_path, most_paths, most_sets, most_vertices}
 use Rattle.book.specs.declared.Refusal.{Refusal}
-use Rattle.book.specs.declared.Answer.TheVariants.{Read, Refused}
 use Rattle.book.specs.declared.Counts.{Counts}
 use Rattle.book.specs.declared.Kind.{Kind}
-use Rattle.book.specs.declared.Kind.TheVariants.{VertexCount, Path, Unknown}
+use Rattle.book.specs.declared.Kind.TheVariants.{VertexCount, Path}
 use Rattle.book.specs.Refusal.{first_failure}
 use Rattle.book.proofs.RefusalLaws.{none→hold}
 use Rattle.lists.specs.Test.{and-true, or_false, either}
@@ -146,7 +146,7 @@ module _ (p : List ℕ) where
 
 outcome-accepted : (o : Option Refusal) (b b' : Book) → outcome o b ≡ accepted b' → (o ≡ none) × (b' ≡ b)
 outcome-accepted none b b' e = (refl, cc)
-outcome-accepted (some r) b b' e = absurd (let z : ◌≡◌ {A = ℕ} 0 1 = cc in omega arith)
+outcome-accepted (some r) b b' e = absurd (cc)
 
 module _ (s : List ℕ) (b : Book) (at : ℕ) (b' : Book) (e : field s b at ≡ accepted b') where
   pub field_extends : b' ≡ extended (kind_at s at) s b at
@@ -225,16 +225,16 @@ path-well_formed p b w some-set proper-path space =
 pub not-zero : (n : ℕ) → not (eqb n 0) ≡ true → 1 ≤ n
 not-zero n e = let nz = eqb-false n 0 (not-true (eqb n 0) e) in omega (arith, nz)
 
-extended-well_formed : (k : Kind) (s : List ℕ) (b : Book) (at : ℕ) → WellFormed b
+extended-well_formed : (k : Prelude.Option Kind) (s : List ℕ) (b : Book) (at : ℕ) → WellFormed b
     → follows b.count (length b.sets) k ≡ true → fits k (length_at s at) ≡ true → end_at s at ≤ length s
     → proper k s b at ≡ true → fresh k s b at ≡ true → room k b ≡ true → WellFormed (extended k s b at)
-extended-well_formed VertexCount s b at w order fit whole value once space =
+extended-well_formed (Some VertexCount) s b at w order fit whole value once space =
     let limits = and-true (leb 1 (count_at s at)) (leb (count_at s at) most_vertices) value in
     count-well_formed (count_at s at) b w (eqb-true _ 0 order) (leb-true _ _ limits.0) (leb-true _ _ limits.1)
-extended-well_formed Kind.Arc s b at w order fit whole value once space = arc-well_formed (arc_at s at) b w value (not-true _ once)
-extended-well_formed Kind.RuleSet s b at w order fit whole value once space =
+extended-well_formed (Some Kind.Arc) s b at w order fit whole value once space = arc-well_formed (arc_at s at) b w value (not-true _ once)
+extended-well_formed (Some Kind.RuleSet) s b at w order fit whole value once space =
     set-well_formed (flags_at s at) b w (not-zero b.count order) (ltb-true _ _ space)
-extended-well_formed Path s b at w order fit whole value once space =
+extended-well_formed (Some Path) s b at w order fit whole value once space =
     let limits = and-true (leb 2 (length_at s at)) (leb (length_at s at) longest_path) fit in
     let size : length (path_at s at) ≡ length_at s at = length-slice (at + 3) (end_at s at) s whole ∙ omega arith in
     path-well_formed (path_at s at) b w (not-zero (length b.sets) order)
@@ -244,7 +244,7 @@ extended-well_formed Path s b at w order fit whole value once space =
       below = vertices-below b.count (path_at s at) value;
     })
     (ltb-true _ _ space)
-extended-well_formed Unknown s b at w order fit whole value once space = w
+extended-well_formed None s b at w order fit whole value once space = w
 
 pub field-well_formed : (s : List ℕ) (b : Book) (at : ℕ) (b' : Book) → WellFormed b → field s b at ≡ accepted b' → WellFormed b'
 field-well_formed s b at b' w e =
@@ -253,13 +253,13 @@ field-well_formed s b at b' w e =
     (extended-well_formed (kind_at s at) s b at w p.order p.fit p.whole p.value p.once p.space)
 
 -- ... and leaves it with a vertex
-extended-counted : (k : Kind) (s : List ℕ) (b : Book) (at : ℕ) → WellFormed b
+extended-counted : (k : Prelude.Option Kind) (s : List ℕ) (b : Book) (at : ℕ) → WellFormed b
     → follows b.count (length b.sets) k ≡ true → proper k s b at ≡ true → 1 ≤ (extended k s b at).count
-extended-counted VertexCount s b at w order value = leb-true _ _ (and-true (leb 1 (count_at s at)) _ value).0
-extended-counted Kind.Arc s b at w order value = not-zero b.count (and-true (not (eqb b.count 0)) _ order).0
-extended-counted Kind.RuleSet s b at w order value = not-zero b.count order
-extended-counted Path s b at w order value = w.counted (not-zero (length b.sets) order)
-extended-counted Unknown s b at w order value = absurd (false≢true order)
+extended-counted (Some VertexCount) s b at w order value = leb-true _ _ (and-true (leb 1 (count_at s at)) _ value).0
+extended-counted (Some Kind.Arc) s b at w order value = not-zero b.count (and-true (not (eqb b.count 0)) _ order).0
+extended-counted (Some Kind.RuleSet) s b at w order value = not-zero b.count order
+extended-counted (Some Path) s b at w order value = w.counted (not-zero (length b.sets) order)
+extended-counted None s b at w order value = absurd (false≢true order)
 
 field-is-book : (s : List ℕ) (b : Book) (at : ℕ) (b' : Book) → WellFormed b → field s b at ≡ accepted b' → IsBook b'
 field-is-book s b at b' w e =
@@ -271,7 +271,7 @@ field-is-book s b at b' w e =
 
 pub and-then-accepted : (r : Reading) (f : Book → Reading) (b' : Book) → and_then r f ≡ accepted b' → (b : Book) × (r ≡ accepted b) × (f b ≡ accepted b')
 and-then-accepted (accepted b) f b' e = (b, refl, e)
-and-then-accepted (refused r) f b' e = absurd (let z : ◌≡◌ {A = ℕ} 0 1 = cc in omega arith)
+and-then-accepted (refused r) f b' e = absurd (cc)
 
 fields-is-book : (turns : ℕ) (s : List ℕ) (b : Book) (at : ℕ) (b' : Book) → IsBook b → fields turns s b at ≡ accepted b' → IsBook b'
 unfolding fields
@@ -292,18 +292,18 @@ blank-well_formed =
 
 pub reading-is-book : (s : List ℕ) (b : Book) → reading s ≡ accepted b → IsBook b
 unfolding reading fields
-reading-is-book [] b e = absurd (let z : ◌≡◌ {A = ℕ} 0 1 = cc in omega arith)
+reading-is-book [] b e = absurd (cc)
 reading-is-book (x ∷ s) b e =
     let (b₁, here, rest) = and-then-accepted (field (x ∷ s) blank 0) _ b (rw (lt-ltb 0 (length (x ∷ s)) (omega arith)) at e) in
     fields-is-book (length s) (x ∷ s) b₁ _ b (field-is-book (x ∷ s) blank 0 b₁ blank-well_formed here) rest
 
 -- an answer tells the reading
-pub answer-read : (r : Reading) (d : Counts) → read_as r ≡ Read d → (b : Book) × (r ≡ accepted b) × (d ≡ counts b)
+pub answer-read : (r : Reading) (d : Counts) → read_as r ≡ Ok d → (b : Book) × (r ≡ accepted b) × (d ≡ counts b)
 answer-read (accepted b) d e = (b, refl, cc)
-answer-read (refused q) d e = absurd (let z : ◌≡◌ {A = ℕ} 0 1 = cc in omega arith)
+answer-read (refused q) d e = absurd (cc)
 
-pub answer-refused : (r : Reading) (q : Refusal) → read_as r ≡ Refused q → r ≡ refused q
-answer-refused (accepted b) q e = absurd (let z : ◌≡◌ {A = ℕ} 0 1 = cc in omega arith)
+pub answer-refused : (r : Reading) (q : Refusal) → read_as r ≡ Err q → r ≡ refused q
+answer-refused (accepted b) q e = absurd (cc)
 answer-refused (refused p) q e = let same : p ≡ q = cc in ap refused same
 
 -- The turns of `reading` never run out: more of them change nothing.

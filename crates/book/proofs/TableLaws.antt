@@ -22,7 +22,7 @@ use Rattle.limits.specs.Limits.{no_arc, most_vertices, pairs}
 use Rattle.book.specs.TableLaws.{Found}
 
 pub found : (P : Arc → Type 0) (xs : List Arc) (u v x : ℕ) → All P xs → weight_in xs u v ≡ some x → Found P u v x
-found P [] u v x h e = absurd (let z : ◌≡◌ {A = ℕ} 0 1 = cc in omega arith)
+found P [] u v x h e = absurd (cc)
 found P (a ∷ xs) u v x h e = go (eqb a.tail u && eqb a.head v) refl e (found P xs u v x h.1)
   where
     go : (y : Bool) → eqb a.tail u && eqb a.head v ≡ y → cond y (some a.weight) (weight_in xs u v) ≡ some x

@@ -1,15 +1,13 @@
 -- The reading of bytes as a book: field by field, each a tag, a length of two bytes (high byte first) and that many bytes.
-use Rattle.std.specs.Prelude.{ℕ, zero, suc, ◌+◌, ◌*◌, Bool, true, false, cond, not, ◌&&◌, List, [], ◌∷◌, ◌++◌, length, get_or, eqb, leb, ltb}
+use Rattle.std.specs.Prelude
+use Rattle.std.specs.Prelude.{ℕ, zero, suc, ◌+◌, ◌*◌, Bool, true, false, cond, not, ◌&&◌, List, [], ◌∷◌, ◌++◌, length, get_or, eqb, leb, ltb, Some, None, Result, Ok, Err}
 use Rattle.std.proofs.Math.Option.{Option, none, some}
 use Rattle.std.proofs.Math.Seq.{slice}
+use Rattle.book.specs.declared.Arc.{Arc as Read}
 use Rattle.book.specs.declared.Refusal.{Refusal}
-use Rattle.book.specs.declared.Answer.{Answer}
-use Rattle.book.specs.declared.Answer.TheVariants.{Read, Refused}
 use Rattle.book.specs.declared.Counts.{Counts}
-use Rattle.book.specs.declared.Verdict.{Verdict}
-use Rattle.book.specs.declared.Verdict.TheVariants.{Good}
 use Rattle.book.specs.declared.Kind.{Kind}
-use Rattle.book.specs.declared.Kind.TheVariants.{VertexCount, Path, Unknown}
+use Rattle.book.specs.declared.Kind.TheVariants.{VertexCount, Path}
 use Rattle.book.specs.Refusal.{Test, test_at, numbered, first_failure, refusal_by}
 use Rattle.limits.specs.Limits.{most_vertices, most_sets, most_paths}
 use Rattle.walks.specs.Graph.{Arc}
@@ -21,21 +19,21 @@ pub data Reading : Type 0 where
   refused : Refusal → Reading
 
 -- an answer, unless a test fails
-abbrev pub verdict : Option Refusal → Answer → Answer
-verdict none a = a
-verdict (some r) a = Refused r
+abbrev pub verdict : {A : Type 0} → Option Refusal → A → Result A Refusal
+verdict none a = Ok a
+verdict (some r) a = Err r
 
 -- what the reader answers
-abbrev pub read_as : Reading → Answer
-read_as (accepted b) = Read (counts b)
-read_as (refused r) = Refused r
+abbrev pub read_as : Reading → Result Counts Refusal
+read_as (accepted b) = Ok (counts b)
+read_as (refused r) = Err r
 
--- The field that starts at byte `at` of s.
-abbrev pub kind_of : ℕ → Kind
+-- The field that starts at byte `at` of s: its kind, if its tag is known.
+abbrev pub kind_of : ℕ → Prelude.Option Kind
 kind_of tag =
-    cond (eqb tag 1) VertexCount (cond (eqb tag 2) Kind.Arc (cond (eqb tag 3) Kind.RuleSet (cond (eqb tag 4) Path Unknown)))
+    cond (eqb tag 1) (Some VertexCount) (cond (eqb tag 2) (Some Kind.Arc) (cond (eqb tag 3) (Some Kind.RuleSet) (cond (eqb tag 4) (Some Path) None)))
 
-abbrev pub kind_at : List ℕ → ℕ → Kind
+abbrev pub kind_at : List ℕ → ℕ → Prelude.Option Kind
 kind_at s at = kind_of (get_or s at 0)
 
 -- numbers, high byte first
@@ -66,44 +64,44 @@ path_at s at = slice (at + 3) (end_at s at) s
 
 -- 2: the tag is known, and stands where the order lets it: the count once and first, then arcs, then rule sets, each followed by its
 -- paths. What has been read says where we are: the count of vertices (0 where none was read) and the number of rule sets.
-abbrev pub follows : ℕ → ℕ → Kind → Bool
-follows vertices sets VertexCount = eqb vertices 0
-follows vertices sets Kind.Arc = not (eqb vertices 0) && eqb sets 0
-follows vertices sets Kind.RuleSet = not (eqb vertices 0)
-follows vertices sets Path = not (eqb sets 0)
-follows vertices sets Unknown = false
+abbrev pub follows : ℕ → ℕ → Prelude.Option Kind → Bool
+follows vertices sets (Some VertexCount) = eqb vertices 0
+follows vertices sets (Some Kind.Arc) = not (eqb vertices 0) && eqb sets 0
+follows vertices sets (Some Kind.RuleSet) = not (eqb vertices 0)
+follows vertices sets (Some Path) = not (eqb sets 0)
+follows vertices sets None = false
 
 -- 3: the length is one that the tag has
-abbrev pub fits : Kind → ℕ → Bool
-fits VertexCount n = eqb n 1
-fits Kind.Arc n = eqb n 6
-fits Kind.RuleSet n = eqb n 2
-fits Path n = path_length n
-fits Unknown n = false
+abbrev pub fits : Prelude.Option Kind → ℕ → Bool
+fits (Some VertexCount) n = eqb n 1
+fits (Some Kind.Arc) n = eqb n 6
+fits (Some Kind.RuleSet) n = eqb n 2
+fits (Some Path) n = path_length n
+fits None n = false
 
 -- 4: the value is within its limits
-abbrev pub proper : Kind → List ℕ → Book → ℕ → Bool
-proper VertexCount s b at = leb 1 (count_at s at) && leb (count_at s at) most_vertices
-proper Kind.Arc s b at = proper_arc b.count (arc_at s at)
-proper Kind.RuleSet s b at = true
-proper Path s b at = are_vertices b.count (path_at s at)
-proper Unknown s b at = true
+abbrev pub proper : Prelude.Option Kind → List ℕ → Book → ℕ → Bool
+proper (Some VertexCount) s b at = leb 1 (count_at s at) && leb (count_at s at) most_vertices
+proper (Some Kind.Arc) s b at = proper_arc b.count (arc_at s at)
+proper (Some Kind.RuleSet) s b at = true
+proper (Some Path) s b at = are_vertices b.count (path_at s at)
+proper None s b at = true
 
 -- 5: an arc's pair has not been given
-abbrev pub fresh : Kind → List ℕ → Book → ℕ → Bool
-fresh VertexCount s b at = true
-fresh Kind.Arc s b at = not (given b.arcs (arc_at s at).tail (arc_at s at).head)
-fresh Kind.RuleSet s b at = true
-fresh Path s b at = true
-fresh Unknown s b at = true
+abbrev pub fresh : Prelude.Option Kind → List ℕ → Book → ℕ → Bool
+fresh (Some VertexCount) s b at = true
+fresh (Some Kind.Arc) s b at = not (given b.arcs (arc_at s at).tail (arc_at s at).head)
+fresh (Some Kind.RuleSet) s b at = true
+fresh (Some Path) s b at = true
+fresh None s b at = true
 
 -- 6: at most 16 rule sets, and at most 256 paths in all
-abbrev pub room : Kind → Book → Bool
-room VertexCount b = true
-room Kind.Arc b = true
-room Kind.RuleSet b = ltb (length b.sets) most_sets
-room Path b = ltb (length (all_paths b.sets)) most_paths
-room Unknown b = true
+abbrev pub room : Prelude.Option Kind → Book → Bool
+room (Some VertexCount) b = true
+room (Some Kind.Arc) b = true
+room (Some Kind.RuleSet) b = ltb (length b.sets) most_sets
+room (Some Path) b = ltb (length (all_paths b.sets)) most_paths
+room None b = true
 
 -- the tests of a field, in 01's order: 1 for the head, 2, 3, 1 for the body; then 4, 5, 6
 abbrev pub framing : List ℕ → ℕ → ℕ → ℕ → List Test
@@ -114,7 +112,7 @@ framing s vertices sets at =
     ∷ test_at at 1 (leb (end_at s at) (length s))
     ∷ []
 
-abbrev pub content : Kind → List ℕ → Book → ℕ → List Test
+abbrev pub content : Prelude.Option Kind → List ℕ → Book → ℕ → List Test
 content kind s b at =
     test_at at 4 (proper kind s b at)
     ∷ test_at at 5 (fresh kind s b at)
@@ -131,16 +129,20 @@ abbrev pub add_arc : Book → Arc → Book
 add_arc b a = record { count = b.count; arcs = b.arcs ++ (a ∷ []); sets = b.sets }
 
 -- the book with the field at byte `at` added to it
-abbrev pub extended : Kind → List ℕ → Book → ℕ → Book
-extended VertexCount s b at = record { count = count_at s at; arcs = b.arcs; sets = b.sets }
-extended Kind.Arc s b at = add_arc b (arc_at s at)
-extended Kind.RuleSet s b at = record { count = b.count; arcs = b.arcs; sets = b.sets ++ (record { flags = flags_at s at; paths = [] } ∷ []) }
-extended Path s b at = record { count = b.count; arcs = b.arcs; sets = add_path b.sets (path_at s at) }
-extended Unknown s b at = b
+abbrev pub extended : Prelude.Option Kind → List ℕ → Book → ℕ → Book
+extended (Some VertexCount) s b at = record { count = count_at s at; arcs = b.arcs; sets = b.sets }
+extended (Some Kind.Arc) s b at = add_arc b (arc_at s at)
+extended (Some Kind.RuleSet) s b at = record { count = b.count; arcs = b.arcs; sets = b.sets ++ (record { flags = flags_at s at; paths = [] } ∷ []) }
+extended (Some Path) s b at = record { count = b.count; arcs = b.arcs; sets = add_path b.sets (path_at s at) }
+extended None s b at = b
 
 abbrev pub outcome : Option Refusal → Book → Reading
 outcome none b = accepted b
 outcome (some r) b = refused r
+
+-- the arc that the code's `Arc` means
+abbrev pub arc_of : Read → Arc
+arc_of a = record { tail = a.tail; head = a.head; weight = a.weight }
 
 -- An arc after a book, whether it is a field's or an item's of a list: 4 and 5, told with its place.
 abbrev pub arc_tests : Book → ℕ → Arc → List Test
@@ -151,12 +153,12 @@ abbrev pub with_arc : Book → ℕ → Arc → Reading
 with_arc b at a = outcome (first_failure (arc_tests b at a)) (add_arc b a)
 
 -- what a reading comes to
-abbrev pub verdict_of : Reading → Verdict
-verdict_of (accepted b) = Good
-verdict_of (refused r) = Verdict.Refused r
+abbrev pub verdict_of : Reading → Result Unit Refusal
+verdict_of (accepted b) = Ok tt
+verdict_of (refused r) = Err r
 
 -- a field of a known kind whose frame is whole
-abbrev pub taken : Kind → List ℕ → Book → ℕ → Reading
+abbrev pub taken : Prelude.Option Kind → List ℕ → Book → ℕ → Reading
 taken kind s b at = outcome (first_failure (content kind s b at)) (extended kind s b at)
 
 -- the book so far: a field that is refused adds nothing
@@ -164,9 +166,9 @@ abbrev pub kept : Book → Reading → Book
 kept b (accepted b') = b'
 kept b (refused r) = b
 
--- what the tests of a field's frame answer, with the counts so far
-abbrev pub framed : List ℕ → ℕ → Counts → Answer
-framed s at c = verdict (first_failure (framing s c.vertices c.sets at)) (Read c)
+-- what the tests of a field's frame answer, after the counts so far: its kind
+abbrev pub framed : List ℕ → ℕ → Counts → Result (Prelude.Option Kind) Refusal
+framed s at c = verdict (first_failure (framing s c.vertices c.sets at)) (kind_at s at)
 
 -- one field
 abbrev pub field : List ℕ → Book → ℕ → Reading

@@ -1,25 +1,41 @@
 -- The refusals: 01's number and value for each, the tests that lead to them, and the order between the tests of an operation.
-use Rattle.std.specs.Prelude.{ℕ, Bool, true, false, cond, ◌&&◌, List, [], ◌∷◌, ◌++◌, map, eqb}
+use Rattle.std.specs.Prelude
+use Rattle.std.specs.Prelude.{ℕ, Bool, true, cond, ◌&&◌, List, [], ◌∷◌, ◌++◌, map, eqb, Some, None}
 use Rattle.std.proofs.Math.Option.{Option, none, some}
-use Rattle.book.specs.declared.Number.{Number}
 use Rattle.book.specs.declared.Refusal.{Refusal}
 use Rattle.book.specs.declared.Refusal.TheVariants.{Truncated, Tag, Length, Value, Repeated, TooMany, Endpoint, Area, Invalid, NotAWalk, Ended, NotStanding, Full}
 
--- 01's number of each refusal, and the value that it carries: the byte of a book's field (or the index of a list's item)
-abbrev pub number_of : Refusal → Number
-number_of (Truncated at) = record { number = 1; placed = true; place = at }
-number_of (Tag at) = record { number = 2; placed = true; place = at }
-number_of (Length at) = record { number = 3; placed = true; place = at }
-number_of (Value at) = record { number = 4; placed = true; place = at }
-number_of (Repeated at) = record { number = 5; placed = true; place = at }
-number_of (TooMany at) = record { number = 6; placed = true; place = at }
-number_of Endpoint = record { number = 7; placed = false; place = 0 }
-number_of Area = record { number = 8; placed = false; place = 0 }
-number_of Invalid = record { number = 9; placed = false; place = 0 }
-number_of NotAWalk = record { number = 10; placed = false; place = 0 }
-number_of Ended = record { number = 11; placed = false; place = 0 }
-number_of NotStanding = record { number = 12; placed = false; place = 0 }
-number_of Full = record { number = 13; placed = false; place = 0 }
+-- 01's number of each refusal
+abbrev pub number_of : Refusal → ℕ
+number_of (Truncated at) = 1
+number_of (Tag at) = 2
+number_of (Length at) = 3
+number_of (Value at) = 4
+number_of (Repeated at) = 5
+number_of (TooMany at) = 6
+number_of Endpoint = 7
+number_of Area = 8
+number_of Invalid = 9
+number_of NotAWalk = 10
+number_of Ended = 11
+number_of NotStanding = 12
+number_of Full = 13
+
+-- the value that it carries: the byte of a book's field (or the index of a list's item)
+abbrev pub place_of : Refusal → Prelude.Option ℕ
+place_of (Truncated at) = Some at
+place_of (Tag at) = Some at
+place_of (Length at) = Some at
+place_of (Value at) = Some at
+place_of (Repeated at) = Some at
+place_of (TooMany at) = Some at
+place_of Endpoint = None
+place_of Area = None
+place_of Invalid = None
+place_of NotAWalk = None
+place_of Ended = None
+place_of NotStanding = None
+place_of Full = None
 
 -- The book's refusals, at a place; and the others in the order between the tests of an operation (01: 8, 7, 9 to 13), after the book's. Every
 -- refusal stands in one of the two lists, and its rank is said here alone.
@@ -32,7 +48,7 @@ refusals_in_order = Area ∷ Endpoint ∷ Invalid ∷ NotAWalk ∷ Ended ∷ Not
 -- The one with a number, as `number_of` has it: the definitions below and those of the operations name refusals by 01's numbers alone.
 abbrev pub numbered_in : ℕ → List Refusal → Refusal
 numbered_in n [] = Truncated 0
-numbered_in n (r ∷ rs) = cond (eqb (number_of r).number n) r (numbered_in n rs)
+numbered_in n (r ∷ rs) = cond (eqb (number_of r) n) r (numbered_in n rs)
 
 abbrev pub numbered : ℕ → ℕ → Refusal
 numbered n at = numbered_in n (book_refusals at ++ refusals_in_order)
@@ -61,16 +77,16 @@ all_hold (t ∷ ts) = t.holds && all_hold ts
 
 -- That order, as 01's numbers.
 abbrev pub order : List ℕ
-order = map (λ r. (number_of r).number) refusals_in_order
+order = map number_of refusals_in_order
 
 -- The tests of an operation in that order, however it lists them; none is left out.
 abbrev pub with_number : ℕ → List Test → List Test
 with_number n [] = []
-with_number n (t ∷ ts) = cond (eqb (number_of t.refusal).number n) (t ∷ with_number n ts) (with_number n ts)
+with_number n (t ∷ ts) = cond (eqb (number_of t.refusal) n) (t ∷ with_number n ts) (with_number n ts)
 
 abbrev pub without_number : ℕ → List Test → List Test
 without_number n [] = []
-without_number n (t ∷ ts) = cond (eqb (number_of t.refusal).number n) (without_number n ts) (t ∷ without_number n ts)
+without_number n (t ∷ ts) = cond (eqb (number_of t.refusal) n) (without_number n ts) (t ∷ without_number n ts)
 
 abbrev pub in_order : List ℕ → List Test → List Test
 in_order [] ts = ts

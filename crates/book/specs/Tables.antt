@@ -1,11 +1,11 @@
 -- A book's meaning as tables, for the layers above.
-use Rattle.std.specs.Prelude.{ℕ, suc, ◌+◌, ◌-◌, ◌*◌, ◌≡◌, List, [], ◌∷◌, ◌++◌, map, length, set, replicate}
+use Rattle.std.specs.Prelude.{ℕ, suc, ◌+◌, ◌-◌, ◌*◌, ◌≡◌, List, [], ◌∷◌, ◌++◌, map, length, set, replicate, Result, Ok, Err}
 use Rattle.limits.specs.Limits.{most_vertices, pairs, most_sets, most_paths, area_size, no_arc, longest_path}
 use Rattle.walks.specs.Graph.{Arc}
-use Rattle.book.specs.declared.Counts.{Counts}
-use Rattle.book.specs.declared.Verdict.{Verdict}
-use Rattle.book.specs.Book.{RuleSet, Book, WellFormed, all_paths}
-use Rattle.book.specs.Reading.{verdict_of, with_arc, kept}
+use Rattle.book.specs.declared.Loaded.{Loaded}
+use Rattle.book.specs.declared.Refusal.{Refusal}
+use Rattle.book.specs.Book.{RuleSet, Book, WellFormed, all_paths, counts}
+use Rattle.book.specs.Reading.{Reading, accepted, refused, verdict_of, with_arc, kept}
 
 -- a list with zeros up to n elements
 abbrev pub padded : ℕ → List ℕ → List ℕ
@@ -60,17 +60,43 @@ pub record IsSets (b : Book) (paths : ℕ) (flags owners entries : List ℕ) : T
   pub paths_are : entries ≡ path_table b.sets
 
 -- ... and so is all that loading b gives: these counts and tables are this well-formed book.
-pub record IsLoaded (b : Book) (c : Counts) (weights flags owners entries : List ℕ) : Type 0 where
-  pub graph : IsGraph b c.vertices weights
-  pub sets : IsSets b c.paths flags owners entries
+pub record IsLoaded (b : Book) (l : Loaded) : Type 0 where
+  pub counted : l.counts ≡ counts b
+  pub graph : IsGraph b l.counts.vertices l.weights
+  pub sets : IsSets b l.counts.paths l.flags l.owners l.entries
+
+-- What a reading that is to leave P of the book answers, with what it leaves.
+abbrev pub Leaves : (Book → Loaded → Type 0) → Reading → Result Loaded Refusal → Type 0
+Leaves P (accepted b) (Ok l) = P b l
+Leaves P (accepted b) (Err r) = ⊥
+Leaves P (refused q) (Ok l) = ⊥
+Leaves P (refused q) (Err r) = r ≡ q
+
+-- What loading answers: the book's counts and tables, or its refusal.
+abbrev pub LoadedAs : Reading → Result Loaded Refusal → Type 0
+LoadedAs = Leaves IsLoaded
+
+-- what stands there after a step that answers r
+abbrev pub left : Result Unit Refusal → Loaded → Result Loaded Refusal
+left (Ok u) l = Ok l
+left (Err r) l = Err r
+
+-- The counts and the tables are those of b, whether it is well formed or not.
+pub record AreTables (b : Book) (l : Loaded) : Type 0 where
+  pub counts_are : l.counts ≡ counts b
+  pub weights_are : l.weights ≡ weight_table b.arcs
+  pub flags_are : l.flags ≡ flag_table b.sets
+  pub owners_are : l.owners ≡ owner_table b.sets
+  pub paths_are : l.entries ≡ path_table b.sets
 
 -- What entering an arc into the book b's table of weights answers and leaves: a refusal leaves the table as it was.
-abbrev pub Enters : Book → ℕ → Arc → Verdict → List ℕ → Type 0
+abbrev pub Enters : Book → ℕ → Arc → Result Unit Refusal → List ℕ → Type 0
 Enters b at a v new = (v ≡ verdict_of (with_arc b at a)) × (new ≡ weight_table (kept b (with_arc b at a)).arcs)
 
--- the tables that stand for nothing yet
-pub record Blank (weights flags owners paths : List ℕ) : Type 0 where
-  pub no_arcs : weights ≡ replicate pairs no_arc
-  pub no_flags : flags ≡ replicate most_sets 0
-  pub no_owners : owners ≡ replicate most_paths 0
-  pub no_paths : paths ≡ replicate area_size 0
+-- what stands for nothing yet
+pub record Blank (l : Loaded) : Type 0 where
+  pub nothing_counted : l.counts ≡ record { vertices = 0; arcs = 0; sets = 0; paths = 0 }
+  pub no_arcs : l.weights ≡ replicate pairs no_arc
+  pub no_flags : l.flags ≡ replicate most_sets 0
+  pub no_owners : l.owners ≡ replicate most_paths 0
+  pub no_paths : l.entries ≡ replicate area_size 0

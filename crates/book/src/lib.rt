@@ -1,21 +1,21 @@
 // The book: its reader, and what a book that is read means to the layers above.
 #![tactic(auto)]
 
-ghost use Rattle.std.specs.Prelude.{◌≡◌, true, false};
-ghost use Rattle.book.specs.Refusal.{number_of};
-ghost use Rattle.book.specs.Book.{Book};
-ghost use Rattle.book.specs.Book.{counts as Book-counts};
-ghost use Rattle.book.specs.Reading.{reading, read_as, accepted};
-ghost use Rattle.book.specs.Tables.{Blank, IsLoaded};
+ghost use Rattle.std.specs.Prelude.{◌≡◌, ◌≤◌, length};
+ghost use Rattle.book.specs.Reading.{reading, read_as};
+ghost use Rattle.book.specs.Refusal.{number_of, place_of};
+ghost use Rattle.book.specs.Tables.{Blank, LoadedAs, left};
 
 mod field;
 
+use field::field_end;
 pub use field::{enter_arc, is_path};
-use field::{field, field_end};
 use limits::{AREA, MOST_PATHS, MOST_SETS, NO_ARC, PAIRS};
+use std::fmt;
+use walks::ArcTable;
 
 // The refusals of 01, 1 to 13 in its order. A book's refusal holds the byte at which the field starts.
-#[derive(Clone, Copy)]
+#[derive(Clone, Copy, PartialEq, Eq, Debug)]
 pub enum Refusal {
     Truncated(usize),
     Tag(usize),
@@ -32,56 +32,56 @@ pub enum Refusal {
     Full,
 }
 
-// 01's number of a refusal, and the place that it carries, if it has one.
-#[derive(Clone, Copy)]
-pub struct Number {
-    pub number: usize,
-    pub placed: bool,
-    pub place: usize,
-}
+impl Refusal {
+    // 01's number of the refusal.
+    pub fn number(self) -> usize
+        ensures { result ≡ number_of self }
+    {
+        match self {
+            Refusal::Truncated(_) => 1,
+            Refusal::Tag(_) => 2,
+            Refusal::Length(_) => 3,
+            Refusal::Value(_) => 4,
+            Refusal::Repeated(_) => 5,
+            Refusal::TooMany(_) => 6,
+            Refusal::Endpoint => 7,
+            Refusal::Area => 8,
+            Refusal::Invalid => 9,
+            Refusal::NotAWalk => 10,
+            Refusal::Ended => 11,
+            Refusal::NotStanding => 12,
+            Refusal::Full => 13,
+        }
+    }
 
-pub fn number_of(r: Refusal) -> Number
-    ensures { result ≡ number_of r }
-{
-    match r {
-        Refusal::Truncated(at) => placed(1, at),
-        Refusal::Tag(at) => placed(2, at),
-        Refusal::Length(at) => placed(3, at),
-        Refusal::Value(at) => placed(4, at),
-        Refusal::Repeated(at) => placed(5, at),
-        Refusal::TooMany(at) => placed(6, at),
-        Refusal::Endpoint => bare(7),
-        Refusal::Area => bare(8),
-        Refusal::Invalid => bare(9),
-        Refusal::NotAWalk => bare(10),
-        Refusal::Ended => bare(11),
-        Refusal::NotStanding => bare(12),
-        Refusal::Full => bare(13),
+    // The place that it carries, if it has one.
+    pub fn place(self) -> Option<usize>
+        ensures { result ≡ place_of self }
+    {
+        match self {
+            Refusal::Truncated(at)
+            | Refusal::Tag(at)
+            | Refusal::Length(at)
+            | Refusal::Value(at)
+            | Refusal::Repeated(at)
+            | Refusal::TooMany(at) => Some(at),
+            _ => None,
+        }
     }
 }
 
-fn placed(number: usize, place: usize) -> Number
-    ensures { result ≡ record { number = number; placed = true; place = place } }
-{
-    Number {
-        number,
-        placed: true,
-        place,
-    }
-}
-
-fn bare(number: usize) -> Number
-    ensures { result ≡ record { number = number; placed = false; place = 0 } }
-{
-    Number {
-        number,
-        placed: false,
-        place: 0,
+impl fmt::Display for Refusal {
+    fn fmt<W: fmt::Write>(&self, f: &mut fmt::Formatter<W>) -> fmt::Result {
+        let number = self.number();
+        match self.place() {
+            Some(at) => write!(f, "REFUSED {number} AT {at}"),
+            None => write!(f, "REFUSED {number}"),
+        }
     }
 }
 
 // How many vertices, arcs, rule sets and forbidden paths a book has.
-#[derive(Clone, Copy)]
+#[derive(Clone, Copy, PartialEq, Eq, Debug)]
 pub struct Counts {
     pub vertices: usize,
     pub arcs: usize,
@@ -89,69 +89,102 @@ pub struct Counts {
     pub paths: usize,
 }
 
-#[derive(Clone, Copy)]
-pub enum Answer {
-    Read(Counts),
-    Refused(Refusal),
-}
-
-// What entering comes to, where nothing is counted.
-#[derive(Clone, Copy)]
-pub enum Verdict {
-    Good,
-    Refused(Refusal),
+// An arc with its weight (01: a changeover, with its litres), proper or not.
+#[derive(Clone, Copy, PartialEq, Eq, Debug)]
+pub struct Arc {
+    pub tail: usize,
+    pub head: usize,
+    pub weight: usize,
 }
 
 // What a field's tag says that it is.
-#[derive(Clone, Copy)]
+#[derive(Clone, Copy, PartialEq, Eq, Debug)]
 pub enum Kind {
     VertexCount,
     Arc,
     RuleSet,
     Path,
-    Unknown,
+}
+
+// A tag that no kind of field has.
+#[derive(Clone, Copy, PartialEq, Eq, Debug)]
+pub struct UnknownTag;
+
+// A book that has been read: its counts, its table of weights, the flags of its rule sets, and of each of its forbidden paths the rule
+// set's index and the entry. The entries stand together, since they have the form of a runs area; the counts say how much of each table is used.
+#[derive(Drop)]
+pub struct Loaded {
+    pub counts: Counts,
+    pub weights: [u32; PAIRS],
+    pub flags: [u16; MOST_SETS],
+    pub owners: [u8; MOST_PATHS],
+    pub entries: [u8; AREA],
+}
+
+impl Loaded {
+    // Nothing read yet.
+    fn blank() -> Loaded
+        ensures { Blank result }
+    {
+        Loaded {
+            counts: Counts {
+                vertices: 0,
+                arcs: 0,
+                sets: 0,
+                paths: 0,
+            },
+            weights: [NO_ARC; PAIRS],
+            flags: [0; MOST_SETS],
+            owners: [0; MOST_PATHS],
+            entries: [0; AREA],
+        }
+    }
+
+    // The graph of the book.
+    pub fn arcs(&self) -> ArcTable<'_>
+        ensures vertices { result.vertices ≡ self.now.counts.vertices }
+        ensures weights { result.weights.now ≡ self.now.weights }
+    {
+        ArcTable {
+            vertices: self.counts.vertices,
+            weights: &self.weights,
+        }
+    }
+
+    // Takes the fields one after another, up to the first bad one.
+    fn fields(&mut self, bytes: &[u8]) -> Result<(), Refusal>
+        requires some_byte { 1 ≤ length bytes.now }
+        requires nothing_read { Blank self.old }
+        ensures { LoadedAs (reading bytes.now) (left result self.new) }
+    {
+        let mut at = 0;
+        while at < bytes.len() {
+            // `let else`, the refusal handed up: a form that is set. Where the next field starts is known only then, so `while`.
+            let step = self.field(bytes, at);
+            let Ok(()) = step else {
+                return step;
+            };
+            at = field_end(bytes, at);
+        }
+        Ok(())
+    }
 }
 
 // Reads a book: its counts, or its refusal.
-pub fn read(bytes: &[u8]) -> Answer
+pub fn read(bytes: &[u8]) -> Result<Counts, Refusal>
     ensures { result ≡ read_as (reading bytes.now) }
 {
-    let mut weights = [NO_ARC; PAIRS];
-    let mut flags = [0u16; MOST_SETS];
-    let mut owners = [0u8; MOST_PATHS];
-    let mut entries = [0u8; AREA];
-    load(bytes, &mut weights, &mut flags, &mut owners, &mut entries)
+    load(bytes).map(|book| book.counts)
 }
 
-// Reads a book into blank tables.
-pub fn load(
-    bytes: &[u8],
-    weights: &mut [u32; PAIRS],
-    flags: &mut [u16; MOST_SETS],
-    owners: &mut [u8; MOST_PATHS],
-    entries: &mut [u8; AREA],
-) -> Answer
-    requires { Blank weights.old flags.old owners.old entries.old }
-    ensures value { result ≡ read_as (reading bytes.now) }
-    ensures loaded { (b : Book) → reading bytes.now ≡ accepted b → IsLoaded b (Book-counts b) weights.new flags.new owners.new entries.new }
+// Reads a book into its counts and tables, or answers its refusal.
+pub fn load(bytes: &[u8]) -> Result<Loaded, Refusal>
+    ensures { LoadedAs (reading bytes.now) result }
 {
-    if bytes.len() == 0 {
-        return Answer::Refused(Refusal::Truncated(0));
+    if bytes.is_empty() {
+        return Err(Refusal::Truncated(0));
     }
-    let mut at = 0;
-    let mut counts = Counts {
-        vertices: 0,
-        arcs: 0,
-        sets: 0,
-        paths: 0,
-    };
-    while at < bytes.len() {
-        let step = field(bytes, at, counts, weights, flags, owners, entries);
-        let Answer::Read(next) = step else {
-            return step;
-        };
-        counts = next;
-        at = field_end(bytes, at);
-    }
-    Answer::Read(counts)
+    let mut book = Loaded::blank();
+    book.fields(bytes)?;
+    Ok(book)
 }

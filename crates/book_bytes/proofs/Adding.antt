@@ -1,69 +1,68 @@
 -- Laws of a field that is added to a book: when it is taken, and that it adds its bytes to the book's.
-use Rattle.std.specs.Prelude.{ℕ, ◌+◌, ◌≡◌, refl, Bool, true, not, ◌&&◌, List, ◌++◌, leb, length}
+use Rattle.std.specs.Prelude.{ℕ, ◌+◌, ◌≡◌, refl, Bool, true, not, ◌&&◌, List, ◌++◌, leb, length, Option, Some, None}
 use Rattle.std.proofs.Common.{ap, ap₂, ◌∙◌, arith, le-leb, length-append}
 use Rattle.limits.specs.Limits.{most_vertices}
-use Rattle.walks.specs.Graph.{Arc}
 use Rattle.book.specs.declared.Kind.{Kind}
-use Rattle.book.specs.declared.Kind.TheVariants.{VertexCount, Path, Unknown}
+use Rattle.book.specs.declared.Kind.TheVariants.{VertexCount, Path}
 use Rattle.book.proofs.RefusalLaws.{hold→none}
-use Rattle.book.specs.Book.{RuleSet, Book, given, proper_arc, are_vertices}
+use Rattle.book.specs.Book.{Book, given, proper_arc, are_vertices}
 use Rattle.book.specs.BookLaws.{bare}
 use Rattle.book.specs.Reading.{accepted, kind_at, length_at, end_at, follows, fits, proper, fresh, room, framing, content, extended, add_path, add_arc, outcome, field}
 use Rattle.book_bytes.proofs.Field.{Value, value_at, body_of, written, length-written, kind_moved, length_moved, value_moved, kind-first, length-first, value-first}
 
 -- ---- a value added to a book, and its tests
-abbrev pub added : (k : Kind) → Book → Value k → Book
-added VertexCount b n = record { count = n; arcs = b.arcs; sets = b.sets }
-added Kind.Arc b a = add_arc b a
-added Kind.RuleSet b f = record { count = b.count; arcs = b.arcs; sets = b.sets ++ bare f }
-added Path b p = record { count = b.count; arcs = b.arcs; sets = add_path b.sets p }
-added Unknown b v = b
+abbrev pub added : (k : Option Kind) → Book → Value k → Book
+added (Some VertexCount) b n = record { count = n; arcs = b.arcs; sets = b.sets }
+added (Some Kind.Arc) b a = add_arc b a
+added (Some Kind.RuleSet) b f = record { count = b.count; arcs = b.arcs; sets = b.sets ++ bare f }
+added (Some Path) b p = record { count = b.count; arcs = b.arcs; sets = add_path b.sets p }
+added None b v = b
 
-abbrev pub proper_value : (k : Kind) → Book → Value k → Bool
-proper_value VertexCount b n = leb 1 n && leb n most_vertices
-proper_value Kind.Arc b a = proper_arc b.count a
-proper_value Kind.RuleSet b f = true
-proper_value Path b p = are_vertices b.count p
-proper_value Unknown b v = true
+abbrev pub proper_value : (k : Option Kind) → Book → Value k → Bool
+proper_value (Some VertexCount) b n = leb 1 n && leb n most_vertices
+proper_value (Some Kind.Arc) b a = proper_arc b.count a
+proper_value (Some Kind.RuleSet) b f = true
+proper_value (Some Path) b p = are_vertices b.count p
+proper_value None b v = true
 
-abbrev pub fresh_value : (k : Kind) → Book → Value k → Bool
-fresh_value VertexCount b n = true
-fresh_value Kind.Arc b a = not (given b.arcs a.tail a.head)
-fresh_value Kind.RuleSet b f = true
-fresh_value Path b p = true
-fresh_value Unknown b v = true
+abbrev pub fresh_value : (k : Option Kind) → Book → Value k → Bool
+fresh_value (Some VertexCount) b n = true
+fresh_value (Some Kind.Arc) b a = not (given b.arcs a.tail a.head)
+fresh_value (Some Kind.RuleSet) b f = true
+fresh_value (Some Path) b p = true
+fresh_value None b v = true
 
 module _ (s : List ℕ) (b : Book) (at : ℕ) where
-  pub extended-added : (k : Kind) → extended k s b at ≡ added k b (value_at k s at)
-  extended-added VertexCount = refl
-  extended-added Kind.Arc = refl
-  extended-added Kind.RuleSet = refl
-  extended-added Path = refl
-  extended-added Unknown = refl
+  pub extended-added : (k : Option Kind) → extended k s b at ≡ added k b (value_at k s at)
+  extended-added (Some VertexCount) = refl
+  extended-added (Some Kind.Arc) = refl
+  extended-added (Some Kind.RuleSet) = refl
+  extended-added (Some Path) = refl
+  extended-added None = refl
 
-  pub proper-value : (k : Kind) → proper k s b at ≡ proper_value k b (value_at k s at)
-  proper-value VertexCount = refl
-  proper-value Kind.Arc = refl
-  proper-value Kind.RuleSet = refl
-  proper-value Path = refl
-  proper-value Unknown = refl
+  pub proper-value : (k : Option Kind) → proper k s b at ≡ proper_value k b (value_at k s at)
+  proper-value (Some VertexCount) = refl
+  proper-value (Some Kind.Arc) = refl
+  proper-value (Some Kind.RuleSet) = refl
+  proper-value (Some Path) = refl
+  proper-value None = refl
 
-  fresh-value : (k : Kind) → fresh k s b at ≡ fresh_value k b (value_at k s at)
-  fresh-value VertexCount = refl
-  fresh-value Kind.Arc = refl
-  fresh-value Kind.RuleSet = refl
-  fresh-value Path = refl
-  fresh-value Unknown = refl
+  fresh-value : (k : Option Kind) → fresh k s b at ≡ fresh_value k b (value_at k s at)
+  fresh-value (Some VertexCount) = refl
+  fresh-value (Some Kind.Arc) = refl
+  fresh-value (Some Kind.RuleSet) = refl
+  fresh-value (Some Path) = refl
+  fresh-value None = refl
 
 -- ---- a field whose tests hold is read
-pub record Takes (k : Kind) (b : Book) (v : Value k) : Type 0 where
+pub record Takes (k : Option Kind) (b : Book) (v : Value k) : Type 0 where
   pub order : follows b.count (length b.sets) k ≡ true
   pub fit : fits k (length (body_of k v)) ≡ true
   pub value : proper_value k b v ≡ true
   pub once : fresh_value k b v ≡ true
   pub space : room k b ≡ true
 
-module _ (front rest : List ℕ) (b : Book) (k : Kind) (v : Value k) where
+module _ (front rest : List ℕ) (b : Book) (k : Option Kind) (v : Value k) where
   abbrev all : List ℕ
   all = front ++ (written k v ++ rest)
 

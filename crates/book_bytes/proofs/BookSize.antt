@@ -1,5 +1,5 @@
 -- Laws: how many bytes a book can have.
-use Rattle.std.specs.Prelude.{ℕ, ◌+◌, ◌-◌, ◌*◌, ◌≤◌, ◌<◌, ◌≡◌, refl, Bool, true, false, cond, not, ◌&&◌, ◌≢◌, eqb, leb, ltb, length}
+use Rattle.std.specs.Prelude.{ℕ, ◌+◌, ◌-◌, ◌*◌, ◌≤◌, ◌<◌, ◌≡◌, refl, Bool, true, false, cond, not, ◌&&◌, ◌≢◌, eqb, leb, ltb, length, Option, Some, None}
 use Rattle.std.proofs.Common.{sym, ap, ◌∙◌, true≢false, ⊎_elim, arith, ltb-true, ltb-false, leb-true, eqb-true, eq-eqb, length-append}
 use Rattle.std.proofs.lemmas.Bool.{false≢true}
 use mathlib.Core.List.Memᴰ
@@ -11,7 +11,7 @@ use Rattle.lists.specs.Test.{and-true, or_false}
 use Rattle.lists.specs.Pigeonhole.{pigeonhole}
 use Rattle.walks.specs.Graph.{Arc}
 use Rattle.book.specs.declared.Kind.{Kind}
-use Rattle.book.specs.declared.Kind.TheVariants.{VertexCount, Path, Unknown}
+use Rattle.book.specs.declared.Kind.TheVariants.{VertexCount, Path}
 use Rattle.book.specs.Book.{Book, All, IsArc, PairsOnce, WellFormed, all_paths, given}
 use Rattle.book.specs.BookLaws.{paths-set}
 use Rattle.book.proofs.BookLaws.{given_cons, paths-path, length-sets-path, not-zero}
@@ -86,25 +86,25 @@ pub record Sized (b : Book) (at : ℕ) : Type 0 where
   pub within : at ≤ size b
   pub first : b.count ≡ 0 → at ≡ 0
 
-pub next-sized : (k : Kind) (s : List ℕ) (b : Book) (at : ℕ) → WellFormed b → Sized b at → follows b.count (length b.sets) k ≡ true
+pub next-sized : (k : Option Kind) (s : List ℕ) (b : Book) (at : ℕ) → WellFormed b → Sized b at → follows b.count (length b.sets) k ≡ true
     → fits k (length_at s at) ≡ true → proper k s b at ≡ true → Sized (extended k s b at) (end_at s at)
-next-sized VertexCount s b at w z order fit value =
+next-sized (Some VertexCount) s b at w z order fit value =
     let start : at ≡ 0 = z.first (eqb-true b.count 0 order) in
     let one : length_at s at ≡ 1 = eqb-true _ 1 fit in
     let some : 1 ≤ count_at s at = leb-true _ _ (and-true (leb 1 (count_at s at)) _ value).0 in
     record { within = omega (arith, start, one); first = λ e. absurd (omega (arith, some, e)) }
-next-sized Kind.Arc s b at w z order fit value =
+next-sized (Some Kind.Arc) s b at w z order fit value =
     let some : 1 ≤ b.count = not-zero b.count (and-true (not (eqb b.count 0)) _ order).0 in
     let six : length_at s at ≡ 6 = eqb-true _ 6 fit in
     record { within = omega (arith, z.within, six, length-append b.arcs (arc_at s at ∷ [])); first = λ e. absurd (omega (arith, some, e)) }
-next-sized Kind.RuleSet s b at w z order fit value =
+next-sized (Some Kind.RuleSet) s b at w z order fit value =
     let some : 1 ≤ b.count = not-zero b.count order in
     let two : length_at s at ≡ 2 = eqb-true _ 2 fit in
     record {
       within = omega (arith, z.within, two, length-append b.sets (record { flags = flags_at s at; paths = [] } ∷ []), ap length (paths-set (flags_at s at) b.sets));
       first = λ e. absurd (omega (arith, some, e));
     }
-next-sized Path s b at w z order fit value =
+next-sized (Some Path) s b at w z order fit value =
     let some : 1 ≤ length b.sets = not-zero (length b.sets) order in
     let eight : length_at s at ≤ longest_path = leb-true _ _ (and-true (leb 2 (length_at s at)) (leb (length_at s at) longest_path) fit).1 in
     record {
@@ -118,4 +118,4 @@ next-sized Path s b at w z order fit value =
           );
       first = λ e. absurd (omega (arith, w.counted some, e));
     }
-next-sized Unknown s b at w z order fit value = absurd (false≢true order)
+next-sized None s b at w z order fit value = absurd (false≢true order)

@@ -1,56 +1,56 @@
 -- Laws of one field: its bytes tell what it says, and what it says tells its bytes.
-use Rattle.std.specs.Prelude.{ℕ, zero, suc, ◌+◌, ◌*◌, ◌/◌, ◌%◌, ◌≤◌, ◌<◌, ◌≡◌, refl, Bool, true, false, cond, List, [], ◌∷◌, ◌++◌, eqb, length, get_or, take, drop}
+use Rattle.std.specs.Prelude.{ℕ, zero, suc, ◌+◌, ◌*◌, ◌/◌, ◌%◌, ◌≤◌, ◌<◌, ◌≡◌, refl, Bool, true, false, cond, List, [], ◌∷◌, ◌++◌, eqb, length, get_or, take, drop, Option, Some, None}
 use Rattle.std.proofs.Common.{sym, ap, ap₂, subst, ◌∙◌, add-zero, arith, eqb-true, length-take-le, get_or-append-add}
 use Rattle.std.proofs.lemmas.Bool.{false≢true}
 use Rattle.std.proofs.Math.Seq.{slice, slice-cons, slice_empty, take-append-add, drop-append-add, take-append_seam}
 use Rattle.walks.specs.Graph.{Arc}
 use Rattle.book.specs.declared.Kind.{Kind}
-use Rattle.book.specs.declared.Kind.TheVariants.{VertexCount, Path, Unknown}
+use Rattle.book.specs.declared.Kind.TheVariants.{VertexCount, Path}
 use Rattle.book.specs.Reading.{kind_of, kind_at, length_at, end_at, count_at, arc_at, flags_at, path_at, fits}
 use Rattle.book_bytes.specs.Bytes.{AreBytes, two_bytes, four_bytes, field_of, count_field, arc_field, flags_field, path_field}
 
 -- ---- what a field of each kind says
-abbrev pub Value : Kind → Type 0
-Value VertexCount = ℕ
-Value Kind.Arc = Arc
-Value Kind.RuleSet = ℕ
-Value Path = List ℕ
-Value Unknown = Unit
+abbrev pub Value : Option Kind → Type 0
+Value (Some VertexCount) = ℕ
+Value (Some Kind.Arc) = Arc
+Value (Some Kind.RuleSet) = ℕ
+Value (Some Path) = List ℕ
+Value None = Unit
 
-abbrev pub value_at : (k : Kind) → List ℕ → ℕ → Value k
-value_at VertexCount s at = count_at s at
-value_at Kind.Arc s at = arc_at s at
-value_at Kind.RuleSet s at = flags_at s at
-value_at Path s at = path_at s at
-value_at Unknown s at = tt
+abbrev pub value_at : (k : Option Kind) → List ℕ → ℕ → Value k
+value_at (Some VertexCount) s at = count_at s at
+value_at (Some Kind.Arc) s at = arc_at s at
+value_at (Some Kind.RuleSet) s at = flags_at s at
+value_at (Some Path) s at = path_at s at
+value_at None s at = tt
 
 -- its bytes: its tag, and its body behind the head of three bytes
-abbrev pub written : (k : Kind) → Value k → List ℕ
-written VertexCount n = count_field n
-written Kind.Arc a = arc_field a
-written Kind.RuleSet f = flags_field f
-written Path p = path_field p
-written Unknown v = field_of 0 []
+abbrev pub written : (k : Option Kind) → Value k → List ℕ
+written (Some VertexCount) n = count_field n
+written (Some Kind.Arc) a = arc_field a
+written (Some Kind.RuleSet) f = flags_field f
+written (Some Path) p = path_field p
+written None v = field_of 0 []
 
-abbrev pub body_of : (k : Kind) → Value k → List ℕ
+abbrev pub body_of : (k : Option Kind) → Value k → List ℕ
 body_of k v = drop 3 (written k v)
 
-tag_of : Kind → ℕ
-tag_of VertexCount = 1
-tag_of Kind.Arc = 2
-tag_of Kind.RuleSet = 3
-tag_of Path = 4
-tag_of Unknown = 0
+tag_of : Option Kind → ℕ
+tag_of (Some VertexCount) = 1
+tag_of (Some Kind.Arc) = 2
+tag_of (Some Kind.RuleSet) = 3
+tag_of (Some Path) = 4
+tag_of None = 0
 
-framed : (k : Kind) (v : Value k) → written k v ≡ field_of (tag_of k) (body_of k v)
+framed : (k : Option Kind) (v : Value k) → written k v ≡ field_of (tag_of k) (body_of k v)
 unfolding tag_of
-framed VertexCount v = refl
-framed Kind.Arc v = refl
-framed Kind.RuleSet v = refl
-framed Path v = refl
-framed Unknown v = refl
+framed (Some VertexCount) v = refl
+framed (Some Kind.Arc) v = refl
+framed (Some Kind.RuleSet) v = refl
+framed (Some Path) v = refl
+framed None v = refl
 
-pub length-written : (k : Kind) (v : Value k) → length (written k v) ≡ 3 + length (body_of k v)
+pub length-written : (k : Option Kind) (v : Value k) → length (written k v) ≡ 3 + length (body_of k v)
 length-written k v = ap length (framed k v) ∙ omega arith
 
 -- ---- numbers and their bytes
@@ -86,9 +86,9 @@ module _ (front t : List ℕ) where
   pub length_moved : length_at whole place ≡ length_at t 0
   length_moved = ap₂ (λ x y. x * 256 + y) (byte (place + 1) 1 refl) (byte (place + 1 + 1) 2 (omega arith))
 
-  pub value_moved : (k : Kind) → value_at k whole place ≡ value_at k t 0
-  value_moved VertexCount = byte (place + 3) 3 refl
-  value_moved Kind.Arc =
+  pub value_moved : (k : Option Kind) → value_at k whole place ≡ value_at k t 0
+  value_moved (Some VertexCount) = byte (place + 3) 3 refl
+  value_moved (Some Kind.Arc) =
       cc (
         byte (place + 3) 3 refl,
         byte (place + 4) 4 refl,
@@ -97,13 +97,13 @@ module _ (front t : List ℕ) where
         byte (place + 5 + 2) 7 (omega arith),
         byte (place + 5 + 2 + 1) 8 (omega arith),
       )
-  value_moved Kind.RuleSet = ap₂ (λ x y. x * 256 + y) (byte (place + 3) 3 refl) (byte (place + 3 + 1) 4 (omega arith))
-  value_moved Path =
+  value_moved (Some Kind.RuleSet) = ap₂ (λ x y. x * 256 + y) (byte (place + 3) 3 refl) (byte (place + 3 + 1) 4 (omega arith))
+  value_moved (Some Path) =
       let end : end_at whole place ≡ length front + (0 + 3 + length_at t 0) = omega (arith, length_moved) in
       ap (λ e. slice (place + 3) e whole) end
       ∙ ap (drop (place + 3)) (take-append-add front t (end_at t 0))
       ∙ drop-append-add front (take (end_at t 0) t) 3
-  value_moved Unknown = refl
+  value_moved None = refl
 
 -- ---- bytes that are a field are the bytes of what it says
 pub byte-below : (t : List ℕ) → AreBytes t → (i : ℕ) → get_or t i 0 < 256
@@ -116,8 +116,8 @@ tag_again : (x n : ℕ) → fits (kind_of x) n ≡ true → x ≡ tag_of (kind_o
 unfolding tag_of
 tag_again x n = go (eqb x 1) (eqb x 2) (eqb x 3) (eqb x 4) refl refl refl refl
   where
-    kind : Bool → Bool → Bool → Bool → Kind
-    kind p q r u = cond p VertexCount (cond q Kind.Arc (cond r Kind.RuleSet (cond u Path Unknown)))
+    kind : Bool → Bool → Bool → Bool → Option Kind
+    kind p q r u = cond p (Some VertexCount) (cond q (Some Kind.Arc) (cond r (Some Kind.RuleSet) (cond u (Some Path) None)))
 
     go : (p q r u : Bool) → eqb x 1 ≡ p → eqb x 2 ≡ q → eqb x 3 ≡ r → eqb x 4 ≡ u → fits (kind p q r u) n ≡ true → x ≡ tag_of (kind p q r u)
     go true q r u e _ _ _ fit = eqb-true x 1 e
@@ -152,16 +152,16 @@ module _ (t : List ℕ) (bytes : AreBytes t) (held : end_at t 0 ≤ length t) wh
   sized : (n : ℕ) → length_at t 0 ≡ n → path_at t 0 ≡ elements t 3 n
   sized n e = ap (λ m. slice 3 (3 + m) t) e ∙ slice-elements t 3 n (omega arith)
 
-  body_again : (k : Kind) → fits k (length_at t 0) ≡ true → path_at t 0 ≡ body_of k (value_at k t 0)
-  body_again VertexCount fit = sized 1 (eqb-true _ 1 fit)
-  body_again Kind.Arc fit =
+  body_again : (k : Option Kind) → fits k (length_at t 0) ≡ true → path_at t 0 ≡ body_of k (value_at k t 0)
+  body_again (Some VertexCount) fit = sized 1 (eqb-true _ 1 fit)
+  body_again (Some Kind.Arc) fit =
       sized 6 (eqb-true _ 6 fit)
       ∙ sym
       (ap (λ l. get_or t 3 0 ∷ get_or t 4 0 ∷ l)
       (four-again (get_or t 5 0) (get_or t 6 0) (get_or t 7 0) (get_or t 8 0) (byte-below t bytes 5) (byte-below t bytes 6) (byte-below t bytes 7) (byte-below t bytes 8)))
-  body_again Kind.RuleSet fit = sized 2 (eqb-true _ 2 fit) ∙ sym (two-again (get_or t 3 0) (get_or t 4 0) (byte-below t bytes 3) (byte-below t bytes 4))
-  body_again Path fit = refl
-  body_again Unknown fit = absurd (false≢true fit)
+  body_again (Some Kind.RuleSet) fit = sized 2 (eqb-true _ 2 fit) ∙ sym (two-again (get_or t 3 0) (get_or t 4 0) (byte-below t bytes 3) (byte-below t bytes 4))
+  body_again (Some Path) fit = refl
+  body_again None fit = absurd (false≢true fit)
 
   pub field-again : fits (kind_at t 0) (length_at t 0) ≡ true → take (end_at t 0) t ≡ written (kind_at t 0) (value_at (kind_at t 0) t 0)
   field-again fit =
@@ -171,21 +171,21 @@ module _ (t : List ℕ) (bytes : AreBytes t) (held : end_at t 0 ≤ length t) wh
 
 -- ---- the bytes of a value are a field that says it
 module _ (rest : List ℕ) where
-  pub kind-first : (k : Kind) (v : Value k) → kind_at (written k v ++ rest) 0 ≡ k
-  kind-first VertexCount v = refl
-  kind-first Kind.Arc v = refl
-  kind-first Kind.RuleSet v = refl
-  kind-first Path v = refl
-  kind-first Unknown v = refl
+  pub kind-first : (k : Option Kind) (v : Value k) → kind_at (written k v ++ rest) 0 ≡ k
+  kind-first (Some VertexCount) v = refl
+  kind-first (Some Kind.Arc) v = refl
+  kind-first (Some Kind.RuleSet) v = refl
+  kind-first (Some Path) v = refl
+  kind-first None v = refl
 
-  pub length-first : (k : Kind) (v : Value k) → length_at (written k v ++ rest) 0 ≡ length (body_of k v)
+  pub length-first : (k : Option Kind) (v : Value k) → length_at (written k v ++ rest) 0 ≡ length (body_of k v)
   length-first k v = ap (λ l. length_at (l ++ rest) 0) (framed k v) ∙ two-value (length (body_of k v))
 
-  pub value-first : (k : Kind) (v : Value k) → value_at k (written k v ++ rest) 0 ≡ v
-  value-first VertexCount v = refl
-  value-first Kind.Arc v = ap (λ w. record { tail = v.tail; head = v.head; weight = w }) (omega arith)
-  value-first Kind.RuleSet v = two-value v
-  value-first Path v =
-      let end : end_at (written Path v ++ rest) 0 ≡ suc (suc (suc (length v))) = omega (arith, length-first Path v) in
-      ap (λ e. slice 3 e (written Path v ++ rest)) end ∙ take-append_seam v rest
-  value-first Unknown v = refl
+  pub value-first : (k : Option Kind) (v : Value k) → value_at k (written k v ++ rest) 0 ≡ v
+  value-first (Some VertexCount) v = refl
+  value-first (Some Kind.Arc) v = ap (λ w. record { tail = v.tail; head = v.head; weight = w }) (omega arith)
+  value-first (Some Kind.RuleSet) v = two-value v
+  value-first (Some Path) v =
+      let end : end_at (written (Some Path) v ++ rest) 0 ≡ suc (suc (suc (length v))) = omega (arith, length-first (Some Path) v) in
+      ap (λ e. slice 3 e (written (Some Path) v ++ rest)) end ∙ take-append_seam v rest
+  value-first None v = refl

@@ -1,6 +1,7 @@
 -- Laws: a book that is accepted is short, and of a longer byte string the first bad field is found within the first bytes.
+use Rattle.std.specs.Prelude
+use Rattle.std.specs.Prelude.{◌≡◌, refl, Bool, true, false, not, ◌&&◌, List, [], ◌∷◌, ◌++◌, leb, ltb, length, get_or, take, drop, Some, None}
 use Prim.Native.Nat.{ℕ, zero, suc, ◌+◌, ◌*◌, ◌≤◌, ◌<◌}
-use Rattle.std.specs.Prelude.{◌≡◌, refl, Bool, true, false, not, ◌&&◌, List, [], ◌∷◌, ◌++◌, leb, ltb, length, get_or, take, drop}
 use Rattle.std.proofs.Math.Path.{sym, ap}
 use Rattle.std.proofs.Common.{ap₂, subst, ◌∙◌, arith, le-leb, lt-ltb, ltb-false, leb-true, eqb-true, get_or-take, take-take}
 use Rattle.std.proofs.Math.Bool.{cond}
@@ -11,7 +12,7 @@ use Rattle.limits.specs.Limits.{longest_path, most_paths, most_sets, most_vertic
 use Rattle.lists.specs.Test.{and-true}
 use Rattle.walks.specs.Graph.{Arc}
 use Rattle.book.specs.declared.Kind.{Kind}
-use Rattle.book.specs.declared.Kind.TheVariants.{VertexCount, Path, Unknown}
+use Rattle.book.specs.declared.Kind.TheVariants.{VertexCount, Path}
 use Rattle.book.specs.declared.Refusal.{Refusal}
 use Rattle.book.specs.declared.Refusal.TheVariants.{Truncated, Tag, Length, Value, Repeated, TooMany}
 use Rattle.book.specs.Refusal.{first_failure}
@@ -42,12 +43,12 @@ taken_if value once space e at =
     (first_failure (record { holds = value; refusal = Value at } ∷ record { holds = once; refusal = Repeated at } ∷ record { holds = space; refusal = TooMany at } ∷ []))
     e
 
-fits-eight : (k : Kind) (n : ℕ) → fits k n ≡ true → n ≤ longest_path
-fits-eight VertexCount n e = omega (arith, eqb-true n 1 e)
-fits-eight Kind.Arc n e = omega (arith, eqb-true n 6 e)
-fits-eight Kind.RuleSet n e = omega (arith, eqb-true n 2 e)
-fits-eight Path n e = leb-true n longest_path (and-true (leb 2 n) (leb n longest_path) e).1
-fits-eight Unknown n e = absurd (false≢true e)
+fits-eight : (k : Prelude.Option Kind) (n : ℕ) → fits k n ≡ true → n ≤ longest_path
+fits-eight (Some VertexCount) n e = omega (arith, eqb-true n 1 e)
+fits-eight (Some Kind.Arc) n e = omega (arith, eqb-true n 6 e)
+fits-eight (Some Kind.RuleSet) n e = omega (arith, eqb-true n 2 e)
+fits-eight (Some Path) n e = leb-true n longest_path (and-true (leb 2 n) (leb n longest_path) e).1
+fits-eight None n e = absurd (false≢true e)
 
 module _ (s : List ℕ) (m : ℕ) (b : Book) (at : ℕ) (within : at + 11 ≤ m) (long : m ≤ length s) where
   abbrev front : List ℕ
@@ -79,27 +80,27 @@ module _ (s : List ℕ) (m : ℕ) (b : Book) (at : ℕ) (within : at + 11 ≤ m)
   path-same : length_at s at ≤ longest_path → path_at front at ≡ path_at s at
   path-same h = ap (λ n. drop (at + 3) (take (at + 3 + n) front)) length-same ∙ ap (drop (at + 3)) (take-take (at + 3 + length_at s at) m s (omega arith))
 
-  taken-same : (k : Kind) → length_at s at ≤ longest_path → taken k front b at ≡ taken k s b at
-  taken-same VertexCount h =
+  taken-same : (k : Prelude.Option Kind) → length_at s at ≤ longest_path → taken k front b at ≡ taken k s b at
+  taken-same (Some VertexCount) h =
       ap (λ c. taken_if (leb 1 c && leb c most_vertices) true true (record { count = c; arcs = b.arcs; sets = b.sets }) at) (byte (at + 3) (omega arith))
-  taken-same Kind.Arc h =
+  taken-same (Some Kind.Arc) h =
       ap
       (λ (a : Arc). taken_if (proper_arc b.count a) (not (given b.arcs a.tail a.head)) true
       (record { count = b.count; arcs = b.arcs ++ (a ∷ []); sets = b.sets }) at)
       arc-same
-  taken-same Kind.RuleSet h =
+  taken-same (Some Kind.RuleSet) h =
       ap
       (λ f. taken_if true true (ltb (length b.sets) most_sets)
       (record { count = b.count; arcs = b.arcs; sets = b.sets ++ (record { flags = f; paths = [] } ∷ []) }) at)
       flags-same
-  taken-same Path h =
+  taken-same (Some Path) h =
       ap
       (λ p. taken_if (are_vertices b.count p) true (ltb (length (all_paths b.sets)) most_paths)
       (record { count = b.count; arcs = b.arcs; sets = add_path b.sets p }) at)
       (path-same h)
-  taken-same Unknown h = refl
+  taken-same None h = refl
 
-  abbrev framed : Kind → ℕ → List ℕ → Reading
+  abbrev framed : Prelude.Option Kind → ℕ → List ℕ → Reading
   framed k n t =
       shape (leb (at + 3) (length t)) (follows b.count (length b.sets) k) (fits k n) (leb (at + 3 + n) (length t)) (first_failure (content k t b at)) (extended k t b at) at
 

@@ -1,5 +1,5 @@
 -- Laws: the bytes of a book that keeps the rules are read, field after field, as that book.
-use Rattle.std.specs.Prelude.{ℕ, zero, suc, ◌+◌, ◌≤◌, ◌≡◌, true, cond, ◌&&◌, eqb}
+use Rattle.std.specs.Prelude.{ℕ, zero, suc, ◌+◌, ◌≤◌, ◌≡◌, true, cond, ◌&&◌, eqb, Option, Some}
 use Rattle.std.proofs.Math.Path.{refl, ap, subst}
 use Rattle.std.proofs.Common.{sym, ap₂, ◌∙◌, arith}
 use Rattle.std.proofs.Math.Bool.{not}
@@ -21,7 +21,7 @@ use Rattle.book_bytes.proofs.Adding.{added, Takes, end_read, field-read}
 -- The bytes x take what has been read from b to b'.
 pub data Reads : Book → List ℕ → Book → Type 0 where
   stop : {b : Book} → Reads b [] b
-  next : {b b' : Book} {x : List ℕ} (k : Kind) (v : Value k) → Takes k b v → Reads (added k b v) x b' → Reads b (written k v ++ x) b'
+  next : {b b' : Book} {x : List ℕ} (k : Option Kind) (v : Value k) → Takes k b v → Reads (added k b v) x b' → Reads b (written k v ++ x) b'
 
 and-then : {b b' b'' : Book} {x y : List ℕ} → Reads b x b' → Reads b' y b'' → Reads b (x ++ y) b''
 and-then stop r = r
@@ -52,7 +52,7 @@ book n arcs sets = record { count = n; arcs = arcs; sets = sets }
 
 count-read : (n : ℕ) → 1 ≤ n → n ≤ most_vertices → Reads blank (count_field n) (book n [] [])
 count-read n low high =
-    next VertexCount n (record { order = refl; fit = refl; value = ap₂ ◌&&◌ (le-leb 1 n low) (le-leb n most_vertices high); once = refl; space = refl }) stop
+    next (Some VertexCount) n (record { order = refl; fit = refl; value = ap₂ ◌&&◌ (le-leb 1 n low) (le-leb n most_vertices high); once = refl; space = refl }) stop
 
 module _ (n : ℕ) (low : 1 ≤ n) where
   arcs-read : (done todo : List Arc) → All (IsArc n) todo → PairsOnce (done ++ todo)
@@ -61,7 +61,7 @@ module _ (n : ℕ) (low : 1 ≤ n) where
   arcs-read done [] proper once = subst (λ l. Reads (book n done []) [] (book n l [])) (sym (append-nil done)) stop
   arcs-read done (a ∷ todo) proper once =
       let joined : (done ++ (a ∷ [])) ++ todo ≡ done ++ (a ∷ todo) = append_assoc done (a ∷ []) todo in
-      next Kind.Arc a
+      next (Some Kind.Arc) a
       (record {
         order = ap (λ x. x && true) (not_none n low);
         fit = refl;
@@ -99,7 +99,7 @@ module _ (n : ℕ) (arcs : List Arc) (low : 1 ≤ n) where
       let (size, vertices) = and-true (path_length (length p)) (are_vertices n p) (unfold is_path in IsPath→is_path n p proper.0) in
       let so_far : length (all_paths sets) ≡ length (all_paths done) + length ps =
       ap length (paths_append done (with_paths f ps)) ∙ length-append (all_paths done) (ps ++ []) ∙ ap (λ l. length (all_paths done) + length l) (append-nil ps) in
-      next Path p
+      next (Some Path) p
       (record {
         order = not_none (length sets) (omega (arith, length-append done (with_paths f ps)));
         fit = size;
@@ -120,7 +120,7 @@ module _ (n : ℕ) (arcs : List Arc) (low : 1 ≤ n) where
       let so_far : length (all_paths (done ++ (s ∷ []))) ≡ length (all_paths done) + length s.paths =
       ap length (paths_append done (s ∷ [])) ∙ length-append (all_paths done) (s.paths ++ []) ∙ ap (λ l. length (all_paths done) + length l) (append-nil s.paths) in
       and-then
-      (next Kind.RuleSet s.flags
+      (next (Some Kind.RuleSet) s.flags
       (record { order = not_none n low; fit = refl; value = refl; once = refl; space = lt-ltb (length done) most_sets (omega arith) })
       (paths-read s.flags done [] s.paths (all_left (IsPath n) s.paths (all_paths todo) proper) (omega arith)))
       (subst (λ l. Reads (book n arcs (done ++ (s ∷ []))) (flat_map set_fields todo) (book n arcs l)) (append_assoc done (s ∷ []) todo)

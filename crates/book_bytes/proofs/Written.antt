@@ -1,7 +1,7 @@
 -- Laws: bytes that are read as a book are that book's bytes.
+use Rattle.std.specs.Prelude.{refl, true, not, eqb, leb, Option, Some, None}
 use Prim.Native.Nat.{ℕ, zero, suc, ◌≤◌, ◌<◌}
 use Rattle.std.proofs.Math.Path.{◌≡◌, ap, subst}
-use Rattle.std.specs.Prelude.{refl, true, not, eqb, leb}
 use Rattle.std.proofs.Common.{sym, ap₂, ◌∙◌, arith, lt-ltb, leb-true, eqb-true, take-append-drop}
 use Rattle.std.proofs.lemmas.Bool.{false≢true}
 use mathlib.Core.List.{List, [], ◌∷◌, ◌++◌, append_assoc, append-nil, flat_map}
@@ -11,7 +11,7 @@ use Rattle.limits.specs.Limits.{most_vertices}
 use Rattle.lists.specs.Test.{and-true}
 use Rattle.walks.specs.Graph.{Arc}
 use Rattle.book.specs.declared.Kind.{Kind}
-use Rattle.book.specs.declared.Kind.TheVariants.{VertexCount, Path, Unknown}
+use Rattle.book.specs.declared.Kind.TheVariants.{VertexCount, Path}
 use Rattle.book.specs.Book.{RuleSet, Book, blank, All, IsArc, WellFormed}
 use Rattle.book.specs.BookLaws.{Passed}
 use Rattle.book.proofs.BookLaws.{all_snoc, not-zero, field-passed, field_extends, field-well_formed, blank-well_formed, reading-is-book, enough_turns, and-then-accepted}
@@ -67,17 +67,17 @@ pub record SoFar (b : Book) (front : List ℕ) : Type 0 where
   pub flags-fit : All (λ s. s.flags < 65536) b.sets
 
 -- flags of two bytes
-abbrev Fits16 : (k : Kind) → Value k → Type 0
-Fits16 VertexCount n = Unit
-Fits16 Kind.Arc a = Unit
-Fits16 Kind.RuleSet f = f < 65536
-Fits16 Path p = Unit
-Fits16 Unknown v = Unit
+abbrev Fits16 : (k : Option Kind) → Value k → Type 0
+Fits16 (Some VertexCount) n = Unit
+Fits16 (Some Kind.Arc) a = Unit
+Fits16 (Some Kind.RuleSet) f = f < 65536
+Fits16 (Some Path) p = Unit
+Fits16 None v = Unit
 
-next_so_far : (k : Kind) (b : Book) (v : Value k) (front : List ℕ) → WellFormed b → SoFar b front → follows b.count (length b.sets) k ≡ true
+next_so_far : (k : Option Kind) (b : Book) (v : Value k) (front : List ℕ) → WellFormed b → SoFar b front → follows b.count (length b.sets) k ≡ true
     → proper_value k b v ≡ true → Fits16 k v → SoFar (added k b v) (front ++ written k v)
 unfolding bytes_of flat_map
-next_so_far VertexCount b n front w z order value small =
+next_so_far (Some VertexCount) b n front w z order value small =
     let none : b.count ≡ 0 = eqb-true b.count 0 order in
     let low : 1 ≤ n = leb-true 1 n (and-true (leb 1 n) (leb n most_vertices) value).0 in
     let arcs-none : b.arcs ≡ [] = no_arcs b.arcs (subst (λ c. All (IsArc c) b.arcs) none w.arcs-proper) in
@@ -89,7 +89,7 @@ next_so_far VertexCount b n front w z order value small =
           ∙ ap₂ (λ xs ss. count_field n ++ flat_map arc_field xs ++ flat_map set_fields ss) (sym arcs-none) (sym sets-none);
       flags-fit = z.flags-fit;
     }
-next_so_far Kind.Arc b a front w z order value small =
+next_so_far (Some Kind.Arc) b a front w z order value small =
     let (some, none) = and-true (not (eqb b.count 0)) (eqb (length b.sets) 0) order in
     let low : 1 ≤ b.count = not-zero b.count some in
     let sets-none : b.sets ≡ [] = no_elements b.sets (eqb-true _ 0 none) in
@@ -103,7 +103,7 @@ next_so_far Kind.Arc b a front w z order value small =
           ∙ ap (λ ss. count_field b.count ++ flat_map arc_field (b.arcs ++ (a ∷ [])) ++ flat_map set_fields ss) (sym sets-none);
       flags-fit = z.flags-fit;
     }
-next_so_far Kind.RuleSet b f front w z order value small =
+next_so_far (Some Kind.RuleSet) b f front w z order value small =
     let low : 1 ≤ b.count = not-zero b.count order in
     record {
       first = λ e. absurd (omega arith);
@@ -112,7 +112,7 @@ next_so_far Kind.RuleSet b f front w z order value small =
           ∙ ap (λ l. count_field b.count ++ flat_map arc_field b.arcs ++ l) (sym (flat_snoc set_fields b.sets (record { flags = f; paths = [] })));
       flags-fit = all_snoc (λ s. s.flags < 65536) b.sets (record { flags = f; paths = [] }) z.flags-fit small;
     }
-next_so_far Path b p front w z order value small =
+next_so_far (Some Path) b p front w z order value small =
     let some : 1 ≤ length b.sets = not-zero (length b.sets) order in
     let low : 1 ≤ b.count = w.counted some in
     record {
@@ -122,7 +122,7 @@ next_so_far Path b p front w z order value small =
           ∙ ap (λ l. count_field b.count ++ flat_map arc_field b.arcs ++ l) (sym (flat_path b.sets p some));
       flags-fit = flags-path b.sets p z.flags-fit;
     }
-next_so_far Unknown b v front w z order value small = absurd (false≢true order)
+next_so_far None b v front w z order value small = absurd (false≢true order)
 
 -- ---- all fields
 all_drop : {A : Type 0} (P : A → Type 0) (n : ℕ) (xs : List A) → All P xs → All P (drop n xs)
@@ -130,17 +130,17 @@ all_drop P zero xs h = h
 all_drop P (suc n) [] h = tt
 all_drop P (suc n) (x ∷ xs) h = all_drop P n xs h.1
 
-small_value : (k : Kind) (t : List ℕ) → AreBytes t → Fits16 k (value_at k t 0)
-small_value VertexCount t bytes = tt
-small_value Kind.Arc t bytes = tt
-small_value Kind.RuleSet t bytes = omega (arith, byte-below t bytes 3, byte-below t bytes 4)
-small_value Path t bytes = tt
-small_value Unknown t bytes = tt
+small_value : (k : Option Kind) (t : List ℕ) → AreBytes t → Fits16 k (value_at k t 0)
+small_value (Some VertexCount) t bytes = tt
+small_value (Some Kind.Arc) t bytes = tt
+small_value (Some Kind.RuleSet) t bytes = omega (arith, byte-below t bytes 3, byte-below t bytes 4)
+small_value (Some Path) t bytes = tt
+small_value None t bytes = tt
 
 -- one more field, whose bytes are the first of t
 module _ (front t : List ℕ) (bytes : AreBytes t) (b b' : Book) (w : WellFormed b) (z : SoFar b front)
     (e : field (front ++ t) b (length front) ≡ accepted b') where
-  abbrev k : Kind
+  abbrev k : Option Kind
   k = kind_at t 0
 
   abbrev v : Value k

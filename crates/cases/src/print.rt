@@ -1,41 +1,48 @@
-// Printing.
+// Printing. A print that fails is passed over, as it was.
 use book::Refusal;
-use limits::STDOUT;
-use lists::wide;
+use routes::Plan;
+use std::fmt;
+use std::fmt::Display;
 
-pub fn text(s: &[u8]) {
-    io::write_all(STDOUT, s);
-}
+// Vertices, one blank between.
+#[derive(Clone, Copy)]
+pub struct Walk<'a>(pub &'a [u8]);
 
-// A blank and a number.
-pub fn number(n: usize) {
-    text(b" ");
-    io::print_decimal(STDOUT, n as u64);
-}
-
-// The line of a refusal.
-pub fn refusal(r: Refusal) {
-    let n = book::number_of(r);
-    text(b"REFUSED");
-    number(n.number);
-    if n.placed {
-        text(b" AT");
-        number(n.place);
-    }
-    text(b"\n");
-}
-
-// The vertices of a walk, one blank between: the first n bytes of its area.
-pub fn write_walk(area: &[u8], n: usize) {
-    let mut i = 0;
-    while i < area.len() {
-        if i < n {
+impl Display for Walk<'_> {
+    fn fmt<W: fmt::Write>(&self, f: &mut fmt::Formatter<W>) -> fmt::Result {
+        for (i, vertex) in self.0.iter().enumerate() {
             if 0 < i {
-                text(b" ");
+                write!(f, " ")?;
             }
-            io::print_decimal(STDOUT, wide(area[i]) as u64);
+            write!(f, "{vertex}")?;
         }
-        i += 1;
+        Ok(())
     }
-    text(b"\n");
+}
+
+// The answer of a plan, and its walk, which stands in its area.
+pub fn planned(rt: &impl Print, answer: Result<Option<Plan>, Refusal>, area: &[u8]) {
+    match answer {
+        Ok(Some(Plan { weight, hops })) => {
+            println!(rt; "LITRES {weight} CHANGES {hops}").unwrap_or(());
+            let length = area.len().min(hops.saturating_add(1));
+            println!(rt; "{}", Walk(&area[..length])).unwrap_or(());
+        }
+        Ok(None) => println!(rt; "NONE").unwrap_or(()),
+        Err(refusal) => println!(rt; "{refusal}").unwrap_or(()),
+    }
+}
+
+// A line for each value that changed: the area, the place, and the values before and after.
+pub fn changes<T: PartialEq + Display, const N: usize>(
+    rt: &impl Print,
+    area: &str,
+    before: &[T; N],
+    after: &[T; N],
+) {
+    for (i, (was, is)) in before.iter().zip(after).enumerate() {
+        if was != is {
+            println!(rt; "{area} {i} {was} {is}").unwrap_or(());
+        }
+    }
 }

@@ -1,11 +1,12 @@
 -- Demand 1, proved: what is answered where nothing is refused.
-use Rattle.std.specs.Prelude.{ℕ, ◌≤◌, ◌<◌, ◌≡◌, refl, List, [], ◌++◌, length, drop}
+use Rattle.std.specs.Prelude.{ℕ, ◌≤◌, ◌<◌, ◌≡◌, refl, List, [], ◌++◌, length, drop, Some, None, Ok, Err}
+use Rattle.planner.specs.Planning.{walked, Answer as Outcome}
 use Rattle.std.proofs.Common.{sym, ap, subst, ◌∙◌, inl, inr, arith}
 use Rattle.std.proofs.Math.Option.{Option, none, some, none-ne-some}
 use Rattle.std.proofs.lemmas.List.{length-map}
 use Rattle.limits.specs.Limits.{most_vertices, area_size, longest}
 use Rattle.walks.specs.Graph.{Graph}
-use Rattle.walks.specs.Walk.{Walk, weight_of, hops}
+use Rattle.walks.specs.Walk.{weight_of, hops}
 use Rattle.states.specs.Chosen.{Decided, chosen}
 use Rattle.states.proofs.Chosen.{chosen_is}
 use Rattle.book.specs.declared.Refusal.{Refusal}
@@ -22,14 +23,12 @@ use Rattle.rules.specs.Operations.{Binding, bound_unless, bind_tests, bound_as, 
 use Rattle.rules.proofs.Laws.{bind-accepted}
 use Rattle.walk_check.proofs.Laws.{sizes}
 use Rattle.walk_check.specs.Checking.{checked_unless, occurrence, check_tests, checking}
-use Rattle.planner.specs.declared.Outcome.{Outcome}
 use Rattle.planner.specs.Planning.{plan_tests, Planned, PlanningOf}
 use Rattle.listed.specs.Listing.{listing}
 use Rattle.listed.specs.SameBook.{arcs_of}
 use Rattle.listed.proofs.SameBook.{listed-book}
 use Rattle.trial_record.specs.declared.Record.{Record}
 use Rattle.trial_rules.specs.Trials.{State, run}
-use Rattle.trials.specs.declared.Begun.{Begun}
 use Rattle.trials.specs.Operations.{begun_as, first_state}
 use Rattle.series.specs.Reports.{reports_of}
 use Rattle.demands.specs.Demands.{ClearOrOccurs, tests_of_begin, WalkOrNone, GetsPlan, Answers}
@@ -42,14 +41,14 @@ use Rattle.demands.proofs.Asked.{conditions}
 -- Where nothing is refused, the best walk or its absence is an answer, and there is no other kind.
 module _ (g : Graph) (F : List (List ℕ)) (start end : ℕ) (old : List ℕ) where
   pub unrefused-answer : (r : Outcome) (new : List ℕ) → Planned none g F start end old r new → WalkOrNone r
-  unrefused-answer (Outcome.Walk weight hops') new p = inl (weight, hops', refl)
-  unrefused-answer Outcome.Nothing new p = inr refl
-  unrefused-answer (Outcome.Refused x) new p = absurd p
+  unrefused-answer (Ok (Some found)) new p = inl (found.weight, found.hops, refl)
+  unrefused-answer (Ok None) new p = inr refl
+  unrefused-answer (Err x) new p = absurd p
 
   an_answer : (o : Option (List ℕ)) → Decided g F start end o → (r : Outcome) × (new : List ℕ) × Planned none g F start end old r new
-  an_answer none n = (Outcome.Nothing, old, (n, refl))
+  an_answer none n = (Ok None, old, (n, refl))
   an_answer (some w) (best, short) =
-      (Outcome.Walk (weight_of g w) (hops w), w ++ drop (length w) old, record { walk = w; best = best; weight_is = refl; hops-is = refl; area-is = refl })
+      (walked (weight_of g w) (hops w), w ++ drop (length w) old, record { walk = w; best = best; weight_is = refl; hops-is = refl; area-is = refl })
 
 plan_gets : (x : Reading) (paths : List ℕ) (count start end : ℕ) (walk : List ℕ) (b : Book) → x ≡ accepted b → b.count ≤ most_vertices → AllHold (plan_conditions paths count start end walk b)
     → GetsPlan (PlanningOf x paths count start end walk)
@@ -73,7 +72,7 @@ check_gets s area count w b read h =
     let none-refused : refusal_of (reading s) (check_tests area count w) ≡ none = ((conditions (reading s)).check area count w).accepts.1 (b, read, h) in
     subst (λ o. ClearOrOccurs (checked_unless o (occurrence (spelled count area) w))) (sym none-refused) (check_finds (spelled count area) w (length w) 1)
 
-begun_gets : (o : Option Refusal) (σ : State) (paths walk : List ℕ) → o ≡ none → (r : Record) × ((begun_as o σ paths walk).answer ≡ Begun.Record r)
+begun_gets : (o : Option Refusal) (σ : State) (paths walk : List ℕ) → o ≡ none → (r : Record) × ((begun_as o σ paths walk).answer ≡ Ok r)
 begun_gets none σ paths walk e = (σ.rec, refl)
 begun_gets (some x) σ paths walk e = absurd (none-ne-some x (sym e))
 

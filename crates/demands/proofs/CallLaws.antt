@@ -1,5 +1,5 @@
 -- What the words of demand 3 come to in the theory of trials: the answers, the accepted reports, a true lab, its set, and the walks that are free.
-use Rattle.std.specs.Prelude.{ℕ, ◌≡◌, Bool, true, false, eqb, length}
+use Rattle.std.specs.Prelude.{ℕ, ◌≡◌, Bool, true, false, eqb, length, Result, Ok, Err}
 use Rattle.std.proofs.Math.Path.{refl, ap, ap₂}
 use Rattle.std.proofs.Common.{sym, subst, ◌∙◌, inl, inr, ⊎_elim, arith}
 use mathlib.Core.List.Memᴰ
@@ -22,10 +22,9 @@ use Rattle.trial_rules.proofs.Lacking.{together-is, lacking-into, lacking-from, 
 use Rattle.trial_rules.proofs.Invariant.{Invariant}
 use Rattle.trial_rules.specs.Oracle.{TrueTo}
 use Rattle.judging.specs.Judging.{state_of, report_tests}
-use Rattle.trials.specs.declared.Begun.{Begun}
-use Rattle.trials.specs.declared.Reported.{Reported}
-use Rattle.trials.specs.Operations.{Leaves, answering, begun_as, beginning, beginning_of, reported_as, reporting_of, reporting, first_state}
-use Rattle.trials.specs.OperationLaws.{same_step}
+use Rattle.trials.specs.declared.Rejected.{Rejected}
+use Rattle.trials.specs.Operations.{Leaves, rejected, answering, begun_as, beginning, beginning_of, reported_as, reporting_of, reporting, first_state}
+use Rattle.trials.specs.OperationLaws.{same_step, rejected-for}
 use Rattle.trials.specs.Replanning.{known-set}
 use Rattle.series.specs.Whole.{leaves_of, report_leaves, after-keeps, opened}
 use Rattle.demands.proofs.Marks.{known→sheet, sheet→known}
@@ -100,40 +99,32 @@ true-report R σ passed h = h
 true-report R σ (failed r) h = h
 
 -- A refused report hands the record back as it came and writes nothing, whatever the record and the areas are.
-pub refused-kept : (s : List ℕ) (l : Leaves Record) (ρ : Report) (x : Refusal) (r : Record) → answer_on s l ρ ≡ Reported.Refused x r
-    → reporting s l.answer l.paths l.walk ρ ≡ answering (Reported.Refused x l.answer) l.paths l.walk
+pub refused-kept : (s : List ℕ) (l : Leaves Record) (ρ : Report) (x : Refusal) (r : Record) → answer_on s l ρ ≡ Err (rejected x r)
+    → reporting s l.answer l.paths l.walk ρ ≡ answering (Err (rejected x l.answer)) l.paths l.walk
 refused-kept s l ρ x r e = go (refusal_of (reading s) (report_tests l.answer l.paths l.walk ρ)) e
   where
     σ : State
     σ = step (graph (book_in (reading s))) (chosen (graph (book_in (reading s)))) (state_of l.answer l.paths l.walk) ρ
 
-    go : (o : Option Refusal) → (reported_as o σ l.answer l.paths l.walk).answer ≡ Reported.Refused x r
-        → reported_as o σ l.answer l.paths l.walk ≡ answering (Reported.Refused x l.answer) l.paths l.walk
+    go : (o : Option Refusal) → (reported_as o σ l.answer l.paths l.walk).answer ≡ Err (rejected x r)
+        → reported_as o σ l.answer l.paths l.walk ≡ answering (Err (rejected x l.answer)) l.paths l.walk
     go none f = absurd (let z : ◌≡◌ {A = ℕ} 0 1 = cc in omega arith)
-    go (some y) f =
-        let same : y ≡ x = cc in
-        ap (λ z. answering (Reported.Refused z l.answer) l.paths l.walk) same
+    go (some y) f = ap (λ z. answering (Err (rejected z l.answer)) l.paths l.walk) (rejected-for y x l.answer r f)
 
 -- A report that is refused by the oracle's tests is refused under one of their numbers.
 refused-by-oracle : (open-stage is-named room : Bool) (σ : State) (q : Record) (paths walk : List ℕ) (x : Refusal) (r : Record)
-    → (reported_as (refusal_by (test 11 open-stage ∷ test 12 is-named ∷ test 13 room ∷ [])) σ q paths walk).answer ≡ Reported.Refused x r
-    → Memᴰ (number_of x).number (11 ∷ 12 ∷ 13 ∷ [])
-refused-by-oracle false n m σ q paths walk x r e =
-    let is : x ≡ Ended = cc in
-    Memᴰ.head (ap (λ y. (number_of y).number) is)
-refused-by-oracle true false m σ q paths walk x r e =
-    let is : x ≡ NotStanding = cc in
-    Memᴰ.tail (Memᴰ.head (ap (λ y. (number_of y).number) is))
-refused-by-oracle true true false σ q paths walk x r e =
-    let is : x ≡ Full = cc in
-    Memᴰ.tail (Memᴰ.tail (Memᴰ.head (ap (λ y. (number_of y).number) is)))
+    → (reported_as (refusal_by (test 11 open-stage ∷ test 12 is-named ∷ test 13 room ∷ [])) σ q paths walk).answer ≡ Err (rejected x r)
+    → Memᴰ (number_of x) (11 ∷ 12 ∷ 13 ∷ [])
+refused-by-oracle false n m σ q paths walk x r e = Memᴰ.head (sym (ap number_of (rejected-for Ended x q r e)))
+refused-by-oracle true false m σ q paths walk x r e = Memᴰ.tail (Memᴰ.head (sym (ap number_of (rejected-for NotStanding x q r e))))
+refused-by-oracle true true false σ q paths walk x r e = Memᴰ.tail (Memᴰ.tail (Memᴰ.head (sym (ap number_of (rejected-for Full x q r e)))))
 refused-by-oracle true true true σ q paths walk x r e = absurd (let z : ◌≡◌ {A = ℕ} 0 1 = cc in omega arith)
 
 module _ (s : List ℕ) (b : Book) (read : reading s ≡ accepted b) where
   abbrev next : State → Report → State
   next σ ρ = step (graph b) (chosen (graph b)) σ ρ
 
-  abbrev replied : Option Refusal → State → Report → Leaves Reported
+  abbrev replied : Option Refusal → State → Report → Leaves (Result Record Rejected)
   replied o σ ρ = reported_as o (next σ ρ) σ.rec (path_area σ) σ.area
 
   -- A report on a state in order is answered by the rules' refusal, or with acceptance.
@@ -143,25 +134,25 @@ module _ (s : List ℕ) (b : Book) (read : reading s ≡ accepted b) where
 
   pub answer-is : (σ : State) → Valid (graph b) σ → (ρ : Report) (o : Option Refusal) → refusal (graph b) σ ρ ≡ o
       → answer_on s (leaves_of σ) ρ ≡ (replied o σ ρ).answer
-  answer-is σ v ρ o e = ap (λ (m : Leaves Reported). m.answer) (report-is σ v ρ o e)
+  answer-is σ v ρ o e = ap (λ (m : Leaves (Result Record Rejected)). m.answer) (report-is σ v ρ o e)
 
   pub only_three : (σ : State) → Valid (graph b) σ → (ρ : Report) → refusal (graph b) σ ρ ≡ refusal_by (oracle_tests (graph b) σ ρ)
-      → (x : Refusal) (r : Record) → answer_on s (leaves_of σ) ρ ≡ Reported.Refused x r → Memᴰ (number_of x).number (11 ∷ 12 ∷ 13 ∷ [])
+      → (x : Refusal) (r : Record) → answer_on s (leaves_of σ) ρ ≡ Err (rejected x r) → Memᴰ (number_of x) (11 ∷ 12 ∷ 13 ∷ [])
   only_three σ v ρ only x r e =
       refused-by-oracle (eqb σ.rec.stage 0) (is_named (graph b) σ ρ) (has_room σ ρ) (next σ ρ) σ.rec (path_area σ) σ.area x r
       (sym (answer-is σ v ρ _ only) ∙ e)
 
   -- An accepted begin on the book: the trials that it opens.
   module _ (flags start end : ℕ) (paths walk : List ℕ) where
-    begun_ok : (σ : State) (r : Record) → (begun_as (begin_refusal (graph b) start end paths walk) σ paths walk).answer ≡ Begun.Record r
+    begun_ok : (σ : State) (r : Record) → (begun_as (begin_refusal (graph b) start end paths walk) σ paths walk).answer ≡ Ok r
         → begin_refusal (graph b) start end paths walk ≡ none
     begun_ok σ r e = go (begin_refusal (graph b) start end paths walk) e
       where
-        go : (o : Option Refusal) → (begun_as o σ paths walk).answer ≡ Begun.Record r → o ≡ none
+        go : (o : Option Refusal) → (begun_as o σ paths walk).answer ≡ Ok r → o ≡ none
         go none f = refl
         go (some x) f = absurd (let z : ◌≡◌ {A = ℕ} 0 1 = cc in omega arith)
 
-    pub begin_ok : (r : Record) → (beginning s flags start end paths walk).answer ≡ Begun.Record r → begin_refusal (graph b) start end paths walk ≡ none
+    pub begin_ok : (r : Record) → (beginning s flags start end paths walk).answer ≡ Ok r → begin_refusal (graph b) start end paths walk ≡ none
     begin_ok r e = begun_ok (first_state b flags start end paths walk) r (sym (ap (λ x. (beginning_of x flags start end paths walk).answer) read) ∙ e)
 
     module _ (ok : begin_refusal (graph b) start end paths walk ≡ none) where
@@ -183,7 +174,7 @@ module _ (s : List ℕ) (b : Book) (read : reading s ≡ accepted b) where
           ap₂ (λ a m. accepted_by (a ∷ answers_on s m ρs) (ρ ∷ ρs)) (answer-is σ c.1.valid ρ _ refl) (report_leaves s b read σ c.1.valid ρ)
           ∙ go (refusal (graph b) σ ρ) (answers_on s (leaves_of (then σ ρ)) ρs) (acceptedFrom (graph b) (chosen (graph b)) (then σ ρ) ρs) (accepted_are (then σ ρ) (after-keeps t σ ρ c.0 c.1) ρs)
         where
-          go : (o : Option Refusal) (answers : List Reported) (done : List Report) → accepted_by answers ρs ≡ done
+          go : (o : Option Refusal) (answers : List (Result Record Rejected)) (done : List Report) → accepted_by answers ρs ≡ done
               → accepted_by ((replied o σ ρ).answer ∷ answers) (ρ ∷ ρs) ≡ unless o (ρ ∷ done) done
           go none answers done e = ap (λ (l : List Report). ρ ∷ l) e
           go (some x) answers done e = e

@@ -1,5 +1,8 @@
 -- Every end from one start, proved: each entry is what planning to that end answers, by the contract of planning.
-use Rattle.std.specs.Prelude.{ℕ, ◌+◌, ◌*◌, ◌≤◌, ◌<◌, ◌≡◌, refl, List, [], ◌∷◌, ◌++◌, ◌↔◌, length, drop, get_or, replicate}
+use Rattle.std.specs.Prelude
+use Rattle.std.specs.Prelude.{ℕ, ◌+◌, ◌*◌, ◌≤◌, ◌<◌, ◌≡◌, refl, List, [], ◌∷◌, ◌++◌, ◌↔◌, length, drop, get_or, replicate, Some, Result, Ok, Err}
+use Rattle.planner.specs.Planning.{Answer as Outcome}
+use Rattle.book.specs.declared.Refusal.{Refusal}
 use Rattle.std.proofs.Common.{sym, ap, ap₂, subst, subst₂, ◌∙◌, arith, length-append, length-drop, drop_at}
 use Rattle.std.proofs.Math.Option.{Option, none, some}
 use Rattle.std.proofs.lemmas.List.{length-replicate}
@@ -14,16 +17,13 @@ use Rattle.book.specs.Book.{Book, WellFormed, graph}
 use Rattle.book.proofs.BookLaws.{reading-is-book}
 use Rattle.book.proofs.TableLaws.{book-weights}
 use Rattle.book.specs.Reading.{accepted, reading}
-use Rattle.rules.specs.declared.Bound.{Bound}
 use Rattle.rules.specs.Area.{spelled}
 use Rattle.rules.specs.ValidLaws.{Valid}
 use Rattle.rules.specs.Operations.{bound_as, binding, area_after}
-use Rattle.planner.specs.declared.Outcome.{Outcome}
 use Rattle.planner.specs.Planning.{plan_tests, Planned, PlanningOf}
 use Rattle.planner.proofs.ValidArea.{valid-bounded}
 use Rattle.ends.specs.Ends.{no_end, entry_of, ends}
 use Rattle.ends.proofs.EndsLaws.{length-ends, ends-weight, ends-hops, entry-best, entry-none, none-entry, entry-start}
-use Rattle.reach.specs.declared.Reached.{Reached}
 use Rattle.reach.specs.Reaching.{reach_tests, answer_by, table_by, Reaching}
 use Rattle.demands.proofs.Asked.{conditions}
 use Rattle.demands.specs.Demands.{entry_for, entry_at, PlanTo, EveryEnd}
@@ -51,10 +51,10 @@ module _ (s : List ℕ) (b : Book) (read : reading s ≡ accepted b) (paths : Li
     entry = entry_of (graph b) (chosen (graph b) F start end)
 
     planned-entry : (walk : List ℕ) (r : Outcome) (new : List ℕ) → Planned none (graph b) F start end walk r new → entry ≡ entry_for r
-    planned-entry walk (Outcome.Walk weight hops) new p =
+    planned-entry walk (Ok (Some found)) new p =
         entry-best (graph b) F start end well.few-vertices bounded.few bounded.short p.best ∙ ap₂ (λ x y. x ∷ y ∷ []) (sym p.weight_is) (sym p.hops-is)
-    planned-entry walk Outcome.Nothing new p = entry-none (graph b) F start end well.few-vertices bounded.few bounded.short p.0
-    planned-entry walk (Outcome.Refused x) new p = absurd p
+    planned-entry walk (Ok Prelude.None) new p = entry-none (graph b) F start end well.few-vertices bounded.few bounded.short p.0
+    planned-entry walk (Err x) new p = absurd p
 
     unrefused : (walk : List ℕ) → longest ≤ length walk → refusal_by (plan_tests paths count start end walk b) ≡ none
     unrefused walk fits = ((conditions (accepted b)).plan paths count start end walk).accepts.1 (b, refl, (area, (fits, (below, (end_Below, (runs, tt))))))
@@ -65,7 +65,7 @@ module _ (s : List ℕ) (b : Book) (read : reading s ≡ accepted b) (paths : Li
         (subst (λ o. Planned o (graph b) F start end p.walk r p.new) (unrefused p.walk p.fits)
         (subst (λ x. PlanningOf x paths count start end p.walk r p.new) read p.planned))
 
-    nothing : None (graph b) F start end → PlanTo s paths count start end Outcome.Nothing
+    nothing : None (graph b) F start end → PlanTo s paths count start end (Ok Prelude.None)
     nothing no_Walk =
         let walk : List ℕ = replicate longest 0 in
         let fits : longest ≤ length walk = omega (arith, length-replicate {A = ℕ} longest 0) in
@@ -74,14 +74,14 @@ module _ (s : List ℕ) (b : Book) (read : reading s ≡ accepted b) (paths : Li
           fits = fits;
           new = walk;
           planned =
-              subst (λ x. PlanningOf x paths count start end walk Outcome.Nothing walk) (sym read)
-              (subst (λ o. Planned o (graph b) F start end walk Outcome.Nothing walk) (sym (unrefused walk fits)) (no_Walk, refl));
+              subst (λ x. PlanningOf x paths count start end walk (Ok Prelude.None) walk) (sym read)
+              (subst (λ o. Planned o (graph b) F start end walk (Ok Prelude.None) walk) (sym (unrefused walk fits)) (no_Walk, refl));
         }
 
-    none-exactly : (i : ℕ) → get_or (no_end ∷ no_end ∷ []) i 0 ≡ no_end → (get_or entry i 0 ≡ no_end) ↔ PlanTo s paths count start end Outcome.Nothing
+    none-exactly : (i : ℕ) → get_or (no_end ∷ no_end ∷ []) i 0 ≡ no_end → (get_or entry i 0 ≡ no_end) ↔ PlanTo s paths count start end (Ok Prelude.None)
     none-exactly i mark = (
       λ e. nothing (none-entry (graph b) F start end well.few-vertices bounded.few bounded.short (book-weights b well) i e),
-      λ p. ap (λ l. get_or l i 0) (plan-entry Outcome.Nothing p) ∙ mark,
+      λ p. ap (λ l. get_or l i 0) (plan-entry (Ok Prelude.None) p) ∙ mark,
     )
 
   module _ (table : List ℕ) (room : 2 * b.count ≤ length table) where
@@ -100,7 +100,7 @@ module _ (s : List ℕ) (b : Book) (read : reading s ≡ accepted b) (paths : Li
     entry-at : (end : ℕ) (h : end < b.count) → entry_at after end ≡ entry end h
     entry-at end h = ap₂ (λ x y. x ∷ y ∷ []) (weight-at end h) (hops-at end h) ∙ two-numbers (graph b) (chosen (graph b) F start end)
 
-    filled : EveryEnd s b paths count start table (Reached.Filled b.count) after
+    filled : EveryEnd s b paths count start table (Ok b.count) after
     filled =
         record {
           answer = refl;
@@ -115,18 +115,18 @@ module _ (s : List ℕ) (b : Book) (read : reading s ≡ accepted b) (paths : Li
               omega (arith, joined, length-ends (graph b) F start b.count, length-drop (2 * b.count) table);
         }
 
-    pub every_end : (r : Reached) (new : List ℕ) → Reaching (reading s) paths count start table r new → EveryEnd s b paths count start table r new
+    pub every_end : (r : Result ℕ Refusal) (new : List ℕ) → Reaching (reading s) paths count start table r new → EveryEnd s b paths count start table r new
     every_end r new p =
         let none-refused : refusal_by (reach_tests paths count start table b) ≡ none =
         ((conditions (accepted b)).reach paths count start table).accepts.1 (b, refl, (area, (room, (below, (runs, tt))))) in
-        let (answer, numbers) : (r ≡ Reached.Filled b.count) × (new ≡ after) =
+        let (answer, numbers) : (r ≡ Ok b.count) × (new ≡ after) =
         subst (λ o. (r ≡ answer_by o (graph b)) × (new ≡ table_by o (graph b) F start table)) none-refused (subst (λ x. Reaching x paths count start table r new) read p) in
         subst₂ (EveryEnd s b paths count start table) (sym answer) (sym numbers) filled
 
 -- Under the known runs that binding gives.
-pub batch-ends : (s : List ℕ) (b : Book) → reading s ≡ accepted b → (flags : ℕ) (area : List ℕ) → area_size ≤ length area → (n : ℕ) → bound_as (binding s flags area) ≡ Bound.Known n
+pub batch-ends : (s : List ℕ) (b : Book) → reading s ≡ accepted b → (flags : ℕ) (area : List ℕ) → area_size ≤ length area → (n : ℕ) → bound_as (binding s flags area) ≡ Ok n
     → (start : ℕ) → start < b.count → (table : List ℕ) → 2 * b.count ≤ length table
-    → (r : Reached) (new : List ℕ) → Reaching (reading s) (area_after (binding s flags area) area) n start table r new
+    → (r : Result ℕ Refusal) (new : List ℕ) → Reaching (reading s) (area_after (binding s flags area) area) n start table r new
     → EveryEnd s b (area_after (binding s flags area) area) n start table r new
 batch-ends s b read flags area fits n answer start below table room =
     let (long, runs) = binds-valid s b read flags area fits in

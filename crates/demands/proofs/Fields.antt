@@ -1,6 +1,7 @@
 -- The laws of what specs/Fields.antt defines.
 use Prim.Native.Nat.{ℕ, zero, suc, ◌+◌, ◌≤◌, ◌<◌}
-use Rattle.std.specs.Prelude.{◌≡◌, Bool, not, ◌&&◌, ◌||◌, ◌↔◌, eqb, leb, length}
+use Rattle.std.specs.Prelude
+use Rattle.std.specs.Prelude.{◌≡◌, Bool, not, ◌&&◌, ◌||◌, ◌↔◌, eqb, leb, length, Some, None}
 use Rattle.std.proofs.Math.Path.{refl, ap}
 use Rattle.std.proofs.Common.{sym, ap₂, subst, ◌∙◌, true≢false, inl, inr, arith, lt-ltb, ltb-true, eqb-true, eq-eqb, ne_eqb}
 use Rattle.std.proofs.Math.Bool.{true, false, cond}
@@ -12,14 +13,14 @@ use Rattle.limits.specs.Limits.{most_vertices, most_sets, most_paths, longest_pa
 use Rattle.lists.specs.Test.{and-true, or_false}
 use Rattle.walks.specs.Graph.{Arc}
 use Rattle.book.specs.declared.Kind.{Kind}
-use Rattle.book.specs.declared.Kind.TheVariants.{VertexCount, Path, Unknown}
+use Rattle.book.specs.declared.Kind.TheVariants.{VertexCount, Path}
 use Rattle.book.specs.declared.Refusal.{Refusal}
 use Rattle.book.specs.Refusal.{numbered, first_failure}
-use Rattle.book.specs.Book.{Book, RuleSet, IsArc, blank, all_paths, given, proper_arc}
+use Rattle.book.specs.Book.{Book, IsArc, blank, all_paths, given, proper_arc}
 use Rattle.book.proofs.BookLaws.{is-arc, arc-passes, vertices-below, below-vertices, given_cons, not-zero}
 use Rattle.book.specs.Reading.{accepted, refused, reading, and_then, outcome, fields, field, extended, kind_at, length_at, end_at, count_at, arc_at, path_at, follows, fits, proper, fresh, room, add_arc, arc_tests}
 use Rattle.rules.proofs.Sets.{refuted}
-use Rattle.listed.specs.declared.Arc.{Arc as Item}
+use Rattle.book.specs.declared.Arc.{Arc as Item}
 use Rattle.listed.specs.Listing.{arc_of, counting, items, listing}
 use Rattle.demands.specs.Conditions.{HasNumber, Decides}
 use Rattle.demands.proofs.Conditions.{one-refusal, first-none, first_some, le_iff, lt_iff, eq_iff, and-iff, zero_one}
@@ -38,29 +39,29 @@ pos_iff n = (not-zero n, λ l. ap not (ne_eqb n 0 (omega arith)))
 not_iff : {A : Type 0} (x : Bool) → (x ≡ false) ↔ A → (not x ≡ true) ↔ A
 not_iff x a = (λ e. a.0 (not-true x e), λ h. ap not (a.1 h))
 
-follows-iff : (k : Kind) (b : Book) → (follows b.count (length b.sets) k ≡ true) ↔ Follows k b
-follows-iff VertexCount b = eq_iff b.count 0
-follows-iff Kind.Arc b = and-iff (not (eqb b.count 0)) (eqb (length b.sets) 0) (pos_iff b.count) (eq_iff (length b.sets) 0)
-follows-iff Kind.RuleSet b = pos_iff b.count
-follows-iff Path b = pos_iff (length b.sets)
-follows-iff Unknown b = never
+follows-iff : (k : Prelude.Option Kind) (b : Book) → (follows b.count (length b.sets) k ≡ true) ↔ Follows k b
+follows-iff (Some VertexCount) b = eq_iff b.count 0
+follows-iff (Some Kind.Arc) b = and-iff (not (eqb b.count 0)) (eqb (length b.sets) 0) (pos_iff b.count) (eq_iff (length b.sets) 0)
+follows-iff (Some Kind.RuleSet) b = pos_iff b.count
+follows-iff (Some Path) b = pos_iff (length b.sets)
+follows-iff None b = never
 
-fits_iff : (k : Kind) (n : ℕ) → (fits k n ≡ true) ↔ Fits k n
-fits_iff VertexCount n = eq_iff n 1
-fits_iff Kind.Arc n = eq_iff n 6
-fits_iff Kind.RuleSet n = eq_iff n 2
-fits_iff Path n = and-iff (leb 2 n) (leb n longest_path) (le_iff 2 n) (le_iff n longest_path)
-fits_iff Unknown n = never
+fits_iff : (k : Prelude.Option Kind) (n : ℕ) → (fits k n ≡ true) ↔ Fits k n
+fits_iff (Some VertexCount) n = eq_iff n 1
+fits_iff (Some Kind.Arc) n = eq_iff n 6
+fits_iff (Some Kind.RuleSet) n = eq_iff n 2
+fits_iff (Some Path) n = and-iff (leb 2 n) (leb n longest_path) (le_iff 2 n) (le_iff n longest_path)
+fits_iff None n = never
 
 arc-iff : (n : ℕ) (a : Arc) → (proper_arc n a ≡ true) ↔ IsArc n a
 arc-iff n a = (is-arc n a, arc-passes n a)
 
-proper-iff : (k : Kind) (s : List ℕ) (b : Book) (at : ℕ) → (proper k s b at ≡ true) ↔ Proper k s b at
-proper-iff VertexCount s b at = and-iff (leb 1 (count_at s at)) (leb (count_at s at) most_vertices) (le_iff 1 (count_at s at)) (le_iff (count_at s at) most_vertices)
-proper-iff Kind.Arc s b at = arc-iff b.count (arc_at s at)
-proper-iff Kind.RuleSet s b at = nothing-asked
-proper-iff Path s b at = (vertices-below b.count (path_at s at), below-vertices b.count (path_at s at))
-proper-iff Unknown s b at = nothing-asked
+proper-iff : (k : Prelude.Option Kind) (s : List ℕ) (b : Book) (at : ℕ) → (proper k s b at ≡ true) ↔ Proper k s b at
+proper-iff (Some VertexCount) s b at = and-iff (leb 1 (count_at s at)) (leb (count_at s at) most_vertices) (le_iff 1 (count_at s at)) (le_iff (count_at s at) most_vertices)
+proper-iff (Some Kind.Arc) s b at = arc-iff b.count (arc_at s at)
+proper-iff (Some Kind.RuleSet) s b at = nothing-asked
+proper-iff (Some Path) s b at = (vertices-below b.count (path_at s at), below-vertices b.count (path_at s at))
+proper-iff None s b at = nothing-asked
 
 new-iff : (arcs : List Arc) (a : Arc) → (given arcs a.tail a.head ≡ false) ↔ New arcs a
 new-iff arcs a = (λ e before m. to m e, from arcs)
@@ -80,19 +81,19 @@ new-iff arcs a = (λ e before m. to m e, from arcs)
         let other : same c ≡ false = refuted (same c) (λ e. let (t, h) = and-true (eqb c.tail a.tail) (eqb c.head a.head) e in new c (Memᴰ.head refl) (eqb-true _ _ t) (eqb-true _ _ h)) in
         given_cons c xs a.tail a.head ∙ ap₂ ◌||◌ other (from xs (λ before m. new before (Memᴰ.tail m)))
 
-fresh-iff : (k : Kind) (s : List ℕ) (b : Book) (at : ℕ) → (fresh k s b at ≡ true) ↔ Fresh k s b at
-fresh-iff VertexCount s b at = nothing-asked
-fresh-iff Kind.Arc s b at = not_iff (given b.arcs (arc_at s at).tail (arc_at s at).head) (new-iff b.arcs (arc_at s at))
-fresh-iff Kind.RuleSet s b at = nothing-asked
-fresh-iff Path s b at = nothing-asked
-fresh-iff Unknown s b at = nothing-asked
+fresh-iff : (k : Prelude.Option Kind) (s : List ℕ) (b : Book) (at : ℕ) → (fresh k s b at ≡ true) ↔ Fresh k s b at
+fresh-iff (Some VertexCount) s b at = nothing-asked
+fresh-iff (Some Kind.Arc) s b at = not_iff (given b.arcs (arc_at s at).tail (arc_at s at).head) (new-iff b.arcs (arc_at s at))
+fresh-iff (Some Kind.RuleSet) s b at = nothing-asked
+fresh-iff (Some Path) s b at = nothing-asked
+fresh-iff None s b at = nothing-asked
 
-room-iff : (k : Kind) (b : Book) → (room k b ≡ true) ↔ HasRoom k b
-room-iff VertexCount b = nothing-asked
-room-iff Kind.Arc b = nothing-asked
-room-iff Kind.RuleSet b = lt_iff (length b.sets) most_sets
-room-iff Path b = lt_iff (length (all_paths b.sets)) most_paths
-room-iff Unknown b = nothing-asked
+room-iff : (k : Prelude.Option Kind) (b : Book) → (room k b ≡ true) ↔ HasRoom k b
+room-iff (Some VertexCount) b = nothing-asked
+room-iff (Some Kind.Arc) b = nothing-asked
+room-iff (Some Kind.RuleSet) b = lt_iff (length b.sets) most_sets
+room-iff (Some Path) b = lt_iff (length (all_paths b.sets)) most_paths
+room-iff None b = nothing-asked
 
 field-decides : (s : List ℕ) (b : Book) (at : ℕ) → Decides at (field_tests s b at) (field_conditions s b at)
 field-decides s b at =

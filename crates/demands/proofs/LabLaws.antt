@@ -1,5 +1,6 @@
 -- Demand 3, proved: from the theorems of the theory of trials, by what the answers come to there.
-use Rattle.std.specs.Prelude.{ℕ, ◌≡◌, refl, List, [], ◌↔◌, length}
+use Rattle.book.specs.declared.Refusal.{Refusal}
+use Rattle.std.specs.Prelude.{ℕ, ◌≡◌, refl, List, [], ◌↔◌, length, Result, Ok}
 use Rattle.std.proofs.Common.{sym, ap, ap₂, subst, subst₂, ◌∙◌, arith}
 use Rattle.std.proofs.Math.Option.{none}
 use Rattle.lists.specs.Test.{true→T}
@@ -15,7 +16,6 @@ use Rattle.trial_rules.proofs.Invariant.{Invariant, invariant_begin}
 use Rattle.trial_rules.proofs.Claim.{claim, refused_as_if_not_made}
 use Rattle.trial_rules.specs.Oracle.{OracleSet}
 use Rattle.trial_rules.proofs.Oracle.{oracle}
-use Rattle.trials.specs.declared.Begun.{Begun}
 use Rattle.trials.specs.Operations.{Leaves, answering}
 use Rattle.trials.specs.Replanning.{chosen-planner}
 use Rattle.series.specs.Reports.{reports_of}
@@ -41,9 +41,9 @@ module _ (β : AcceptedBegin) where
   opening-is : opening β ≡ leaves_of (begun t)
   opening-is =
       let left = begin_leaves s b read flags start end paths walk allowed in
-      ap₂ (λ (m : Leaves Begun) r. answering r m.paths m.walk) left (recorded (sym answered ∙ ap (λ (m : Leaves Begun). m.answer) left))
+      ap₂ (λ (m : Leaves (Result Record Refusal)) r. answering r m.paths m.walk) left (recorded (sym answered ∙ ap (λ (m : Leaves (Result Record Refusal)). m.answer) left))
     where
-      recorded : {p q : Record} → Begun.Record p ≡ Begun.Record q → p ≡ q
+      recorded : {p q : Record} → ◌≡◌ {A = Result Record Refusal} (Ok p) (Ok q) → p ≡ q
       recorded e = cc
 
   in_order : (done : List Report) × Invariant t done (begun t)
@@ -130,16 +130,16 @@ module _ (β : AcceptedBegin) where
                   λ ne. (λ e w f. (o.none-exactly ne).0 e w (free→feasible f), λ n. (o.none-exactly ne).1 (λ w f. n w (feasible→free f)));
             }
 
-    pub replay-labs : (reports : List ℕ) → TrueLab R s (opening β) (reports_of reports) → (a : Begun) (paths' walk' : List ℕ)
+    pub replay-labs : (reports : List ℕ) → TrueLab R s (opening β) (reports_of reports) → (a : Result Record Refusal) (paths' walk' : List ℕ)
         → answering a paths' walk' ≡ replaying s flags start end reports paths walk
-        → (r : Record) × (a ≡ Begun.Record r) × ReplayOutcome β R reports r paths' walk'
+        → (r : Record) × (a ≡ Ok r) × ReplayOutcome β R reports r paths' walk'
     replay-labs reports honest a paths' walk' e =
         let o = labs (reports_of reports) honest in
         let l = reports_on s (opening β) (reports_of reports) in
         let same : answering a paths' walk' ≡ begun_with l =
         e ∙ replay_leaves s b read flags start end paths walk allowed reports ∙ sym (ap begun_with o.rules.ruled) in
-        let is : a ≡ Begun.Record l.answer = ap (λ (m : Leaves Begun). m.answer) same in
-        let made : answering l.answer paths' walk' ≡ l = ap (λ (m : Leaves Begun). answering l.answer m.paths m.walk) same in (
+        let is : a ≡ Ok l.answer = ap (λ (m : Leaves (Result Record Refusal)). m.answer) same in
+        let made : answering l.answer paths' walk' ≡ l = ap (λ (m : Leaves (Result Record Refusal)). answering l.answer m.paths m.walk) same in (
           l.answer,
           is,
           record {
@@ -149,5 +149,5 @@ module _ (β : AcceptedBegin) where
           },
         )
       where
-        begun_with : Leaves Record → Leaves Begun
-        begun_with m = answering (Begun.Record m.answer) m.paths m.walk
+        begun_with : Leaves Record → Leaves (Result Record Refusal)
+        begun_with m = answering (Ok m.answer) m.paths m.walk

@@ -1,10 +1,11 @@
 -- Demand 2, proved: a plan is the shortest of the line-ups that are allowed.
-use Rattle.std.specs.Prelude.{ℕ, suc, ◌≤◌, ◌<◌, ◌≡◌, refl, List, length, take, drop}
+use Rattle.std.specs.Prelude.{ℕ, suc, ◌≤◌, ◌<◌, ◌≡◌, refl, List, length, take, drop, Some, None, Ok, Err}
+use Rattle.planner.specs.Planning.{Answer as Outcome}
 use Rattle.std.proofs.Common.{sym, ap, subst, subst₂, ◌∙◌, inl, inr, arith, length-append, length-drop, take_at, drop_at}
 use Rattle.std.proofs.Math.Option.{none}
 use Rattle.limits.specs.Limits.{area_size, longest}
 use Rattle.walks.specs.Graph.{Graph}
-use Rattle.walks.specs.Walk.{Walk, weight_of, hops}
+use Rattle.walks.specs.Walk.{weight_of, hops}
 use Rattle.walks.proofs.Walk.{hops-length}
 use Rattle.walks.specs.Avoid.{Avoids}
 use Rattle.walks.specs.Order.{Lex, ◌≼⟨◌⟩◌}
@@ -15,13 +16,11 @@ use Rattle.book.specs.Refusal.{refusal_by}
 use Rattle.book.specs.Book.{Book, WellFormed, graph}
 use Rattle.book.proofs.BookLaws.{reading-is-book}
 use Rattle.book.specs.Reading.{accepted, reading, refusal_of, book_in}
-use Rattle.rules.specs.declared.Bound.{Bound}
 use Rattle.rules.specs.Binding.{known}
 use Rattle.rules.specs.Area.{spelled}
 use Rattle.rules.specs.Operations.{bound_as, binding, area_after}
 use Rattle.rules.proofs.Laws.{bind-accepted}
 use Rattle.routes.specs.Plan.{PlannedWalk}
-use Rattle.planner.specs.declared.Outcome.{Outcome}
 use Rattle.planner.specs.Planning.{plan_tests, Planned, PlanningOf, Planning}
 use Rattle.planner.proofs.RuleSets.{planned-same}
 use Rattle.listed.proofs.SameBook.{from-book}
@@ -102,30 +101,30 @@ module _ (b : Book) (well : WellFormed b) (flags start end : ℕ) (start-below :
         }
 
   known-plans : (r : Outcome) (new : List ℕ) → Planned none (graph b) F start end old r new → Plans b flags start end old r new
-  known-plans (Outcome.Walk weight hops') new p =
+  known-plans (Ok (Some found)) new p =
       record {
-        answer = inl (weight, hops', refl);
+        answer = inl (found.weight, found.hops, refl);
         shortest = λ litres changeovers e.
-            let same-weight : weight ≡ litres = cc in
-            let same-hops : hops' ≡ changeovers = cc in
-            subst₂ (λ n k. Shortest b flags start end old n k new) same-weight same-hops (is-shortest weight hops' new p);
+            let same-weight : found.weight ≡ litres = cc in
+            let same-hops : found.hops ≡ changeovers = cc in
+            subst₂ (λ n k. Shortest b flags start end old n k new) same-weight same-hops (is-shortest found.weight found.hops new p);
         none-exactly = (λ e. zero_one (cc), λ no_Walk. absurd (no_Walk p.walk (feasible→allowed b flags start end p.walk p.best.feasible)));
         none-untouched = λ e. zero_one (cc);
       }
-  known-plans Outcome.Nothing new p =
+  known-plans (Ok None) new p =
       record {
         answer = inr refl;
         shortest = λ litres changeovers e. zero_one (cc);
         none-exactly = (λ e v a. p.0 v (allowed→feasible b flags start end v a), λ _. refl);
         none-untouched = λ _. p.1;
       }
-  known-plans (Outcome.Refused x) new p = absurd p
+  known-plans (Err x) new p = absurd p
 
 -- ---- the theorem
 -- The count that binding answers is that of the known paths.
 module _ (s : List ℕ) (b : Book) (read : reading s ≡ accepted b) (flags : ℕ) (area : List ℕ) (fits : area_size ≤ length area) where
-  pub count-is : (n : ℕ) → bound_as (binding s flags area) ≡ Bound.Known n → n ≡ length (known flags b.sets)
-  count-is n answer = let both : Bound.Known n ≡ Bound.Known (length (known flags b.sets)) = sym answer ∙ ap bound_as (binds s b read flags area fits) in cc
+  pub count-is : (n : ℕ) → bound_as (binding s flags area) ≡ Ok n → n ≡ length (known flags b.sets)
+  count-is n answer = let both : Ok n ≡ Ok (length (known flags b.sets)) = sym answer ∙ ap bound_as (binds s b read flags area fits) in cc
 
 -- Planning, refused or not, has one answer and one set of bytes.
 pub one-plan : (s paths : List ℕ) (count start end : ℕ) (old : List ℕ) (r r' : Outcome) (new new' : List ℕ)
@@ -135,7 +134,7 @@ one-plan s paths count start end old r r' new new' p p' =
     planned-same (refusal_of (reading s) (plan_tests paths count start end old)) (graph (book_in (reading s))) F F (λ _ _ a. a) (λ _ _ a. a) start end old r r' new new' p p'
 
 pub batch-plans : (s : List ℕ) (b : Book) → reading s ≡ accepted b → (flags : ℕ) (area : List ℕ) → area_size ≤ length area
-    → (n : ℕ) → bound_as (binding s flags area) ≡ Bound.Known n → (start end : ℕ) → start < b.count → end < b.count → (old : List ℕ) → longest ≤ length old
+    → (n : ℕ) → bound_as (binding s flags area) ≡ Ok n → (start end : ℕ) → start < b.count → end < b.count → (old : List ℕ) → longest ≤ length old
     → BatchPlans s b flags area n start end old
 batch-plans s b read flags area fits n answer start end start-below end_Below old long =
     let after = area_after (binding s flags area) area in

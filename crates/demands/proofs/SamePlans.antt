@@ -1,5 +1,6 @@
 -- Two books whose known paths leave the same walks, for every batch, have equal plans and tables of ends.
-use Rattle.std.specs.Prelude.{ℕ, zero, suc, ◌*◌, ◌≤◌, ◌≡◌, refl, true, List, [], ◌∷◌, ◌++◌, leb, ltb, length, drop}
+use Rattle.planner.specs.Planning.{Answer as Outcome}
+use Rattle.std.specs.Prelude.{ℕ, zero, suc, ◌*◌, ◌≤◌, ◌≡◌, refl, true, List, [], ◌∷◌, ◌++◌, leb, ltb, length, drop, Ok}
 use Rattle.std.proofs.Common.{sym, ap, ap₂, subst, ◌∙◌, le-leb}
 use Rattle.std.proofs.Math.Option.{Option, none, some}
 use Rattle.limits.specs.Limits.{most_vertices, area_size}
@@ -13,13 +14,11 @@ use Rattle.book.specs.Refusal.{test, refusal_by}
 use Rattle.book.specs.Book.{Book, WellFormed, graph}
 use Rattle.book.proofs.BookLaws.{reading-is-book}
 use Rattle.book.specs.Reading.{accepted, reading, book_in}
-use Rattle.rules.specs.declared.Bound.{Bound}
 use Rattle.rules.specs.Binding.{known}
 use Rattle.rules.specs.Area.{spelled, valid}
 use Rattle.rules.specs.Operations.{bound_as, binding, area_after}
 use Rattle.rules.proofs.Laws.{bind-accepted}
 use Rattle.walk_check.proofs.Laws.{sizes}
-use Rattle.planner.specs.declared.Outcome.{Outcome}
 use Rattle.planner.specs.Planning.{Planning}
 use Rattle.planner.specs.RuleSets.{SameWalks}
 use Rattle.planner.proofs.RuleSets.{equal-plans}
@@ -59,7 +58,7 @@ abbrev left-refusal : ℕ → List ℕ → ℕ → Option Refusal
 left-refusal start table count = refusal_by (test 8 (leb (2 * count) (length table)) ∷ test 7 (ltb start count) ∷ [])
 
 module _ (s : List ℕ) (b : Book) (read : reading s ≡ accepted b) (flags : ℕ) (area : List ℕ) (fits : area_size ≤ length area) (n : ℕ)
-    (is : bound_as (binding s flags area) ≡ Bound.Known n) (start : ℕ) (table : List ℕ) where
+    (is : bound_as (binding s flags area) ≡ Ok n) (start : ℕ) (table : List ℕ) where
   abbrev after : List ℕ
   after = area_after (binding s flags area) area
 
@@ -89,7 +88,7 @@ module _ (s s' : List ℕ) (b c : Book) (read : reading s ≡ accepted b) (read'
   other-set flags = subst (λ n. ForbiddenSet n (known flags c.sets)) o.same.counts (known-set flags c (reading-is-book s' c read').well_formed)
 
   plans : (flags : ℕ) (area area' : List ℕ) → area_size ≤ length area → area_size ≤ length area'
-      → (n n' : ℕ) → bound_as (binding s flags area) ≡ Bound.Known n → bound_as (binding s' flags area') ≡ Bound.Known n'
+      → (n n' : ℕ) → bound_as (binding s flags area) ≡ Ok n → bound_as (binding s' flags area') ≡ Ok n'
       → (start end : ℕ) (old : List ℕ) (r r' : Outcome) (new new' : List ℕ)
       → Planning s (area_after (binding s flags area) area) n start end old r new
       → Planning s' (area_after (binding s' flags area') area') n' start end old r' new'
@@ -109,7 +108,7 @@ module _ (s s' : List ℕ) (b c : Book) (read : reading s ≡ accepted b) (read'
       (decides g F well.few-vertices (known-set flags b well) start end) (decides g G well.few-vertices (other-set flags) start end)
 
   tables : (flags : ℕ) (area area' : List ℕ) → area_size ≤ length area → area_size ≤ length area'
-      → (n n' : ℕ) → bound_as (binding s flags area) ≡ Bound.Known n → bound_as (binding s' flags area') ≡ Bound.Known n'
+      → (n n' : ℕ) → bound_as (binding s flags area) ≡ Ok n → bound_as (binding s' flags area') ≡ Ok n'
       → (start : ℕ) (table : List ℕ)
       → (reached (reading s) (area_after (binding s flags area) area) n start table ≡ reached (reading s') (area_after (binding s' flags area') area') n' start table)
       × (table_after (reading s) (area_after (binding s flags area) area) n start table ≡ table_after (reading s') (area_after (binding s' flags area') area') n' start table)

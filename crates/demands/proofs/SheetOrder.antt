@@ -1,5 +1,5 @@
 -- Demand 2, proved: two books that differ only in the order of their sheets have equal plans, counts of known runs, tables of ends, and trials.
-use Rattle.std.specs.Prelude.{ℕ, ◌≤◌, ◌≡◌, refl, List, ◌++◌, length, drop}
+use Rattle.std.specs.Prelude.{ℕ, ◌≤◌, ◌≡◌, refl, List, ◌++◌, length, drop, Result, Ok}
 use Rattle.std.proofs.Common.{sym, ap, ap₂, subst₂, ◌∙◌, arith, drop_at}
 use Rattle.std.proofs.Math.Option.{Option, none, some}
 use Rattle.limits.specs.Limits.{area_size}
@@ -12,7 +12,6 @@ use Rattle.book.specs.Refusal.{refusal_by}
 use Rattle.book.specs.Book.{Book, WellFormed, graph}
 use Rattle.book.proofs.BookLaws.{reading-is-book}
 use Rattle.book.specs.Reading.{accepted, reading}
-use Rattle.rules.specs.declared.Bound.{Bound}
 use Rattle.rules.specs.Binding.{known}
 use Rattle.rules.specs.Area.{written, spelled}
 use Rattle.rules.specs.Operations.{bound_as, binding}
@@ -22,7 +21,6 @@ use Rattle.planner.specs.RuleSets.{Reordered, SameWalks, reordered_walks}
 use Rattle.trial_record.specs.declared.Record.{Record}
 use Rattle.trial_rules.specs.Trials.{ForbiddenSet, stage_of, litres_of, length_of, overlaid, begin_tests, begin}
 use Rattle.trial_rules.proofs.Tests.{set-paths, set-once}
-use Rattle.trials.specs.declared.Begun.{Begun}
 use Rattle.trials.specs.Operations.{Leaves, begun_as, beginning_of, beginning}
 use Rattle.trials.specs.Replanning.{known-set}
 use Rattle.demands.proofs.Conditions.{zero_one}
@@ -55,7 +53,7 @@ module _
         let rest = drop area_size paths in
         record {
           answers =
-              ap₂ (λ p n. Begun.Record (record { stage = stage_of p; start = s; end = t; known = n; first = n; failed = 0; passed = 0; litres = litres_of g p; length = length_of p }))
+              ap₂ (λ p n. Ok (record { stage = stage_of p; start = s; end = t; known = n; first = n; failed = 0; passed = 0; litres = litres_of g p; length = length_of p }))
               same_choice size;
           walks = ap (λ p. overlaid p walk) same_choice;
           runs = λ r e.
@@ -87,7 +85,7 @@ same-answers s s' b c read read' o = record { counts = counts; planning = same-p
 
     counts : (flags : ℕ) (area area' : List ℕ) → area_size ≤ length area → area_size ≤ length area' → bound_as (binding s flags area) ≡ bound_as (binding s' flags area')
     counts flags area area' fits fits' =
-        ap bound_as (binds s b read flags area fits) ∙ ap Bound.Known (size flags) ∙ sym (ap bound_as (binds s' c read' flags area' fits'))
+        ap bound_as (binds s b read flags area fits) ∙ ap Ok (size flags) ∙ sym (ap bound_as (binds s' c read' flags area' fits'))
 
     trials : (flags start end : ℕ) (paths walk : List ℕ) → SameTrials (beginning s flags start end paths walk) (beginning s' flags start end paths walk)
     trials flags start end paths walk =
@@ -96,7 +94,7 @@ same-answers s s' b c read read' o = record { counts = counts; planning = same-p
         let (more, less) = same_set flags b c o.sets in
         let g = graph b in
         let F-set = known-set flags b well in
-        let begins : (h : Graph) → List (List ℕ) → Leaves Begun = λ h H. begun_as (refusal_by (begin_tests h start end paths walk)) (begin h (chosen h) H start end paths walk) paths walk in
+        let begins : (h : Graph) → List (List ℕ) → Leaves (Result Record Refusal) = λ h H. begun_as (refusal_by (begin_tests h start end paths walk)) (begin h (chosen h) H start end paths walk) paths walk in
         let left : beginning s flags start end paths walk ≡ begins g F = ap (λ x. beginning_of x flags start end paths walk) read in
         let right : beginning s' flags start end paths walk ≡ begins g G = ap (λ x. beginning_of x flags start end paths walk) read' ∙ ap (λ h. begins h G) (same_graph s s' b c read read' walks) in
         subst₂ SameTrials (sym left) (sym right) (same-begun g F G more less F-set (G-set flags) start end (same_choice s s' b c read read' walks flags start end) paths walk (refusal_by (begin_tests g start end paths walk)))

@@ -1,5 +1,6 @@
 -- Runs that come back to a grade, proved. One that names a grade twice in succession occurs in no line-up, since no changeover leads from a grade to itself.
-use Rattle.std.specs.Prelude.{ℕ, suc, ◌≤◌, ◌<◌, ◌≡◌, refl, ◌&&◌, List, [], ◌∷◌, ◌++◌, ◌↔◌, ◌⊎◌, ◌≢◌, T, eqb, length, get_or, take}
+use Rattle.trials.specs.Operations.{rejected}
+use Rattle.std.specs.Prelude.{ℕ, suc, ◌≤◌, ◌<◌, ◌≡◌, refl, ◌&&◌, List, [], ◌∷◌, ◌++◌, ◌↔◌, ◌⊎◌, ◌≢◌, T, eqb, length, get_or, take, Ok, Err}
 use Rattle.std.proofs.Common.{sym, ap, subst, ◌∙◌, inl, inr, ⊎_elim, arith, eqb→eq}
 use Rattle.std.proofs.Math.Facts.{or_yes}
 use Rattle.limits.specs.Limits.{area_size, longest_path, most_sets, most_paths}
@@ -21,7 +22,6 @@ use Rattle.book.proofs.BookLaws.{reading-is-book, given_cons, all_map, all_left,
 use Rattle.book.specs.Reading.{accepted, reading, book_in}
 use Rattle.book_bytes.specs.Bytes.{Keeps, bytes_of}
 use Rattle.book_bytes.proofs.RoundTrip.{every_book_read}
-use Rattle.rules.specs.declared.Bound.{Bound}
 use Rattle.rules.specs.Binding.{known}
 use Rattle.rules.specs.Area.{spelled, written}
 use Rattle.rules.specs.ValidLaws.{Valid}
@@ -33,7 +33,6 @@ use Rattle.trial_record.specs.declared.Record.{Record}
 use Rattle.trial_rules.specs.Trials.{State, failed, step}
 use Rattle.trial_rules.proofs.Tests.{forbidden-set, set-once}
 use Rattle.judging.specs.Judging.{state_of}
-use Rattle.trials.specs.declared.Reported.{Reported}
 use Rattle.trials.specs.Operations.{answering, reported_as, reporting}
 use Rattle.trials.specs.Replanning.{known-set}
 use Rattle.demands.specs.Marks.{OfSheet}
@@ -87,7 +86,7 @@ tried_walk {b} {q} t = let stands : q.stage ≢ 2 = λ e. omega (arith, t.stage)
 
 pub from_lab : (s : List ℕ) (b : Book) → reading s ≡ accepted b → (q : Record) (paths walk : List ℕ) → Tried b q paths walk → q.known < most_paths
     → (r : List ℕ) → 2 ≤ length r → length r ≤ longest_path → Occurs r (take q.length walk)
-    → (q' : Record) × ((reporting s q paths walk (failed r)).answer ≡ Reported.Accepted q')
+    → (q' : Record) × ((reporting s q paths walk (failed r)).answer ≡ Ok q')
 from_lab s b read q paths walk t room r two eight o =
     let g = graph (book_in (reading s)) in
     let after : State = step g (chosen g) (state_of q paths walk) (failed r) in
@@ -97,7 +96,7 @@ from_lab s b read q paths walk t room r two eight o =
     (b, read, (t.paths-fit, (t.walk-fits, (t.runs, (t.state, (t.stage, ((is-path, o), (room, tt)))))))) in
     (after.rec, ap (λ x. (reported_as x after q paths walk).answer) none-refused)
 
-pub bound : (s : List ℕ) (b : Book) → reading s ≡ accepted b → (flags : ℕ) (area : List ℕ) → area_size ≤ length area → (n : ℕ) → bound_as (binding s flags area) ≡ Bound.Known n
+pub bound : (s : List ℕ) (b : Book) → reading s ≡ accepted b → (flags : ℕ) (area : List ℕ) → area_size ≤ length area → (n : ℕ) → bound_as (binding s flags area) ≡ Ok n
     → (runs : HowMany (OfSheet b flags) n) × (runs.listed ≡ spelled n (area_after (binding s flags area) area))
 bound s b read flags area fits n answer =
     let F = known flags b.sets in
@@ -138,7 +137,7 @@ module _ (s : List ℕ) (b : Book) (read : reading s ≡ accepted b) where
     none = (None-same (but_stutters loopless from), None-same (but_stutters loopless to))
 
   pub never-named : (q : Record) (paths walk : List ℕ) → Tried b q paths walk → (r : List ℕ) → Stutters r
-      → (x : Refusal) × ((number_of x).number ≡ 12) × (reporting s q paths walk (failed r) ≡ answering (Reported.Refused x q) paths walk)
+      → (x : Refusal) × (number_of x ≡ 12) × (reporting s q paths walk (failed r) ≡ answering (Err (rejected x q)) paths walk)
   never-named q paths walk t r d =
       let refusal = refusals s NotStanding in
       let refused =

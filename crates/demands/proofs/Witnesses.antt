@@ -1,5 +1,7 @@
 -- The premises of demand 3 can be met: on book A, under marks 3, from 0 to 3, for all lent areas that are long enough, by a lab whose trials end
-use Rattle.std.specs.Prelude.{ℕ, ◌≤◌, refl, T, length}
+use Rattle.trials.specs.declared.Rejected.{Rejected}
+use Rattle.trials.specs.Operations.{rejected}
+use Rattle.std.specs.Prelude.{ℕ, ◌≤◌, refl, T, length, Result, Ok, Err}
 use Rattle.std.proofs.Math.Path.{◌≡◌, ap, ap₂, subst}
 use Rattle.std.proofs.Common.{sym, ◌∙◌, inl, inr, ⊎_elim, arith}
 use mathlib.Core.List.{List, [], ◌∷◌, Memᴰ}
@@ -20,8 +22,6 @@ use Rattle.trial_rules.specs.Trials.{Report, passed, failed, State, path_area, V
 use Rattle.trial_rules.proofs.Tests.{is_forbidden_set→, is_valid→Valid}
 use Rattle.trial_rules.proofs.Accepted.{only-oracle}
 use Rattle.trial_rules.specs.Lacking.{lacking, together}
-use Rattle.trials.specs.declared.Begun.{Begun}
-use Rattle.trials.specs.declared.Reported.{Reported}
 use Rattle.trials.specs.Operations.{Leaves, answering, reporting, record_in}
 use Rattle.series.specs.Whole.{leaves_of, report_on, reports_on}
 use Rattle.examples.specs.Books.{bytes_a, book_a, book-A, bytes_stutter, book_stutter, book_stutter_lem}
@@ -56,7 +56,7 @@ begin-A paths walk fits long =
       paths = paths;
       walk = walk;
       rec = record_3;
-      answered = ap (λ (m : Leaves Begun). m.answer) (sums.from_marks_3 paths walk fits long);
+      answered = ap (λ (m : Leaves (Result Record Refusal)). m.answer) (sums.from_marks_3 paths walk fits long);
     }
 
 abbrev pub OnBookA : (AcceptedBegin → Type 0) → Type 0
@@ -97,16 +97,16 @@ record Goes (R : List (List ℕ)) (s : List ℕ) (l : Leaves Record) (ρs done :
   answered : accepted_on s l ρs ≡ done
   left : reports_on s l ρs ≡ l'
 
-abbrev next : Leaves Reported → Leaves Record
+abbrev next : Leaves (Result Record Rejected) → Leaves Record
 next m = answering (record_in m.answer) m.paths m.walk
 
 module _ {R : List (List ℕ)} {s : List ℕ} {l l' : Leaves Record} where
   goes_on : {ρs done : List Report} {r : Record} {p w : List ℕ} (ρ : Report)
-      → reporting s l.answer l.paths l.walk ρ ≡ answering (Reported.Accepted r) p w → TrueReport R l ρ → Goes R s (answering r p w) ρs done l'
+      → reporting s l.answer l.paths l.walk ρ ≡ answering (Ok r) p w → TrueReport R l ρ → Goes R s (answering r p w) ρs done l'
       → Goes R s l (ρ ∷ ρs) (ρ ∷ done) l'
   unfolding TrueLab answers_on accepted_by reports_on
   goes_on {ρs = ρs} {r = r} {p = p} {w = w} ρ made h g =
-      let is : answer_on s l ρ ≡ Reported.Accepted r = ap (λ (m : Leaves Reported). m.answer) made in
+      let is : answer_on s l ρ ≡ Ok r = ap (λ (m : Leaves (Result Record Rejected)). m.answer) made in
       let to : report_on s l ρ ≡ answering r p w = ap next made in
       record {
         honest = (λ q e. h, subst (λ m. TrueLab R s m ρs) (sym to) g.honest);
@@ -114,7 +114,7 @@ module _ {R : List (List ℕ)} {s : List ℕ} {l l' : Leaves Record} where
         left = ap (λ m. reports_on s m ρs) to ∙ g.left;
       }
 
-  goes_refused : {ρs done : List Report} (ρ : Report) (x : Refusal) (r : Record) → answer_on s l ρ ≡ Reported.Refused x r → Goes R s l ρs done l'
+  goes_refused : {ρs done : List Report} (ρ : Report) (x : Refusal) (r : Record) → answer_on s l ρ ≡ Err (rejected x r) → Goes R s l ρs done l'
       → Goes R s l (ρ ∷ ρs) done l'
   unfolding TrueLab answers_on accepted_by reports_on
   goes_refused {ρs = ρs} ρ x r is g =
@@ -167,7 +167,7 @@ module _ (paths walk : List ℕ) (fits : area_size ≤ length paths) (long : lon
   abbrev passed-13 : State
   passed-13 = step graph_a plan_a σ₁ passed
 
-  passes-13 : reporting bytes_a σ₁.rec (path_area σ₁) σ₁.area passed ≡ answering (Reported.Accepted passed-13.rec) (path_area passed-13) passed-13.area
+  passes-13 : reporting bytes_a σ₁.rec (path_area σ₁) σ₁.area passed ≡ answering (Ok passed-13.rec) (path_area passed-13) passed-13.area
   passes-13 = report-is bytes_a book_a book-A σ₁ valid-123 passed none (only-oracle graph_a σ₁ passed long-123 valid-123)
 
   passing : Goes (path-123 ∷ []) bytes_a (leaves_of σ₀) (failed path-13 ∷ failed path-123 ∷ passed ∷ []) (failed path-123 ∷ passed ∷ []) (leaves_of passed-13)
@@ -187,7 +187,7 @@ module _ (paths walk : List ℕ) (fits : area_size ≤ length paths) (long : lon
   β = begin-A paths walk fits long
 
   opening-is : opening β ≡ leaves_of σ₀
-  opening-is = ap (λ (m : Leaves Begun). answering record_3 m.paths m.walk) (sums.from_marks_3 paths walk fits long)
+  opening-is = ap (λ (m : Leaves (Result Record Refusal)). answering record_3 m.paths m.walk) (sums.from_marks_3 paths walk fits long)
 
   trial : {R : List (List ℕ)} {ρs done : List Report} {l : Leaves Record} → LabSet book_a 3 R → Goes R bytes_a (leaves_of σ₀) ρs done l
       → Trial R ρs done l.answer (standing_in l) β

@@ -1,6 +1,7 @@
 -- The words of demand 3, over the answers of begin and the reports and over what they leave, as their contracts give both (`beginning`,
 -- `reporting`, `reports_on`): which reports are accepted, and when an oracle (01: a lab) is true to a set of forbidden paths (01: runs).
-use Rattle.std.specs.Prelude.{ℕ, ◌≤◌, ◌≡◌, ◌⊎◌, ◌↔◌, length, take}
+use Rattle.trials.specs.declared.Rejected.{Rejected}
+use Rattle.std.specs.Prelude.{ℕ, ◌≤◌, ◌≡◌, ◌⊎◌, ◌↔◌, length, take, Result, Ok, Err}
 use mathlib.Core.List.{List, [], ◌∷◌, Memᴰ}
 use Rattle.lists.specs.Distinct.{Distinct}
 use Rattle.walks.specs.Avoid.{Occurs, Avoids}
@@ -10,8 +11,6 @@ use Rattle.book.specs.Book.{Book, IsPath, graph}
 use Rattle.book.specs.Reading.{accepted, reading}
 use Rattle.trial_record.specs.declared.Record.{Record}
 use Rattle.trial_rules.specs.Trials.{Report, passed, failed}
-use Rattle.trials.specs.declared.Begun.{Begun}
-use Rattle.trials.specs.declared.Reported.{Reported}
 use Rattle.trials.specs.Operations.{Leaves, answering, beginning, reporting}
 use Rattle.series.specs.Whole.{report_on}
 use Rattle.demands.specs.Marks.{OfSheet, Clear}
@@ -29,7 +28,7 @@ pub record AcceptedBegin : Type 0 where
   pub paths : List ℕ
   pub walk : List ℕ
   pub rec : Record
-  pub answered : (beginning bytes flags start end paths walk).answer ≡ Begun.Record rec
+  pub answered : (beginning bytes flags start end paths walk).answer ≡ Ok rec
 
 -- What it leaves: its record, and both areas.
 abbrev pub opening : AcceptedBegin → Leaves Record
@@ -38,20 +37,20 @@ opening β =
     answering β.rec m.paths m.walk
 
 -- What a report answers that is made on record and areas as they stand.
-abbrev pub answer_on : List ℕ → Leaves Record → Report → Reported
+abbrev pub answer_on : List ℕ → Leaves Record → Report → Result Record Rejected
 answer_on s l ρ = (reporting s l.answer l.paths l.walk ρ).answer
 
 -- The answers to a list of reports, in order, each made on what the one before it left (`report_on`).
-unfoldable pub answers_on : List ℕ → Leaves Record → List Report → List Reported
+unfoldable pub answers_on : List ℕ → Leaves Record → List Report → List (Result Record Rejected)
 answers_on s l [] = []
 answers_on s l (ρ ∷ ρs) = answer_on s l ρ ∷ answers_on s (report_on s l ρ) ρs
 
 -- The reports that were answered with acceptance, in order.
-unfoldable pub accepted_by : List Reported → List Report → List Report
+unfoldable pub accepted_by : List (Result Record Rejected) → List Report → List Report
 accepted_by [] ρs = []
 accepted_by (a ∷ answers) [] = []
-accepted_by (Reported.Accepted r ∷ answers) (ρ ∷ ρs) = ρ ∷ accepted_by answers ρs
-accepted_by (Reported.Refused x r ∷ answers) (ρ ∷ ρs) = accepted_by answers ρs
+accepted_by (Ok r ∷ answers) (ρ ∷ ρs) = ρ ∷ accepted_by answers ρs
+accepted_by (Err x ∷ answers) (ρ ∷ ρs) = accepted_by answers ρs
 
 abbrev pub accepted_on : List ℕ → Leaves Record → List Report → List Report
 accepted_on s l ρs = accepted_by (answers_on s l ρs) ρs
@@ -69,7 +68,7 @@ TrueReport R l (failed r) = Memᴰ r R × Occurs r (standing_in l)
 -- A lab is true to R (01): each of its reports that is answered with acceptance is true; its refused ones may be anything.
 unfoldable pub TrueLab : List (List ℕ) → List ℕ → Leaves Record → List Report → Type 0
 TrueLab R s l [] = Unit
-TrueLab R s l (ρ ∷ ρs) = ((r : Record) → answer_on s l ρ ≡ Reported.Accepted r → TrueReport R l ρ) × TrueLab R s (report_on s l ρ) ρs
+TrueLab R s l (ρ ∷ ρs) = ((r : Record) → answer_on s l ρ ≡ Ok r → TrueReport R l ρ) × TrueLab R s (report_on s l ρ) ρs
 
 -- ---- the binding sheets' runs and the lab's
 -- n different paths have P.

@@ -1,7 +1,7 @@
 -- Conditions, each with the number of the refusal where it does not hold: all hold, or the first that does not decides. And tests that decide them.
-use Rattle.std.specs.Prelude.{ℕ, ◌≡◌, true, List, [], ◌∷◌, ◌↔◌, ◌⊎◌}
+use Rattle.std.specs.Prelude.{ℕ, ◌≡◌, true, List, [], ◌∷◌, ◌↔◌, ◌⊎◌, unwrap_or}
 use Rattle.book.specs.declared.Refusal.{Refusal}
-use Rattle.book.specs.Refusal.{Test, number_of}
+use Rattle.book.specs.Refusal.{Test, number_of, place_of}
 
 -- What is asked, and the refusal's number where it is not so.
 pub record Condition : Type 1 where
@@ -17,7 +17,7 @@ AllHold (c ∷ cs) = c.holds × AllHold cs
 
 -- x has 01's number n and carries the place (0 where a refusal has none).
 abbrev pub HasNumber : Refusal → ℕ → ℕ → Type 0
-HasNumber x n at = ((number_of x).number ≡ n) × ((number_of x).place ≡ at)
+HasNumber x n at = (number_of x ≡ n) × (unwrap_or (place_of x) 0 ≡ at)
 
 -- x has the number of the first condition that does not hold.
 abbrev pub FirstFails : ℕ → List Condition → Refusal → Type 0

@@ -1,7 +1,11 @@
 -- The three demands (docs/RULES.md), sentence by sentence: each is a record with a part for each sentence, over the definitions that the contracts of the
 -- operations name; and after the second demand what requests 1 and 2 add (02). A sentence that a comment has in quotation marks is the demand's, 02's in the part of a
 -- request, or 01's where it says so. Theorems.antt proves them.
-use Rattle.std.specs.Prelude.{ℕ, suc, ◌≤◌, ◌<◌, ◌+◌, ◌*◌, ◌≡◌, ◌⊎◌, ◌↔◌, ◌≢◌, length, drop, get_or, take}
+use Rattle.std.specs.Prelude
+use Rattle.std.specs.Prelude.{ℕ, suc, ◌≤◌, ◌<◌, ◌+◌, ◌*◌, ◌≡◌, ◌⊎◌, ◌↔◌, ◌≢◌, length, drop, get_or, take, Option, Some, Result, Ok, Err}
+use Rattle.planner.specs.Planning.{walked, Answer as Outcome}
+use Rattle.trials.specs.Operations.{rejected}
+use Rattle.walk_check.specs.declared.Occurrence.{Occurrence}
 use mathlib.Core.List.{List, [], ◌∷◌, ◌++◌, Permᴰ, Memᴰ}
 use Rattle.std.proofs.Math.Option.{some}
 use Rattle.lists.specs.Distinct.{Distinct}
@@ -13,33 +17,26 @@ use Rattle.walks.specs.Order.{Lex, ◌≼⟨◌⟩◌}
 use Rattle.walks.specs.Best.{Best, None}
 use Rattle.walks.specs.Stutter.{Stutters, ButStutters}
 use Rattle.states.specs.Chosen.{chosen}
-use Rattle.book.specs.declared.Answer.{Answer}
 use Rattle.book.specs.declared.Refusal.{Refusal}
 use Rattle.book.specs.Refusal.{Test, number_of}
 use Rattle.book.specs.Book.{Book, counts, graph, RuleSet, All, all_paths}
 use Rattle.book.specs.Reading.{Reading, accepted, refused, reading, read_as, refusal_of}
 use Rattle.book_bytes.specs.Bytes.{AreBytes, bytes_of, Keeps, longest_book}
-use Rattle.rules.specs.declared.Bound.{Bound}
 use Rattle.rules.specs.Binding.{known}
 use Rattle.rules.specs.Area.{spelled, written}
 use Rattle.rules.specs.ValidLaws.{Valid}
 use Rattle.rules.specs.Operations.{bind_tests, bound_as, binding, area_after}
 use Rattle.walk_check.specs.Checking.{check_tests, checking}
-use Rattle.walk_check.specs.declared.Checked.{Checked}
-use Rattle.planner.specs.declared.Outcome.{Outcome}
 use Rattle.planner.specs.Planning.{plan_tests, PlanningOf, Planning}
 use Rattle.planner.specs.RuleSets.{SameGraph, Reordered}
 use Rattle.ends.specs.Ends.{no_end}
-use Rattle.reach.specs.declared.Reached.{Reached}
 use Rattle.reach.specs.Reaching.{reach_tests, reached, table_after, Reaching}
-use Rattle.listed.specs.declared.Arc.{Arc as Item}
+use Rattle.book.specs.declared.Arc.{Arc as Item}
 use Rattle.listed.specs.Listing.{listing}
 use Rattle.listed.specs.SameBook.{arcs_of}
 use Rattle.trial_record.specs.declared.Record.{Record}
 use Rattle.trial_rules.specs.Trials.{Report, failed, Valid as ValidState, run, begin_tests, ForbiddenSet, overlaid, Plan, Planner, accepted as acceptedFrom, named, failures, passes, replanned}
 use Rattle.judging.specs.Judging.{state_of, report_tests}
-use Rattle.trials.specs.declared.Begun.{Begun}
-use Rattle.trials.specs.declared.Reported.{Reported}
 use Rattle.trials.specs.Operations.{first_state, beginning, reporting, answering, Leaves}
 use Rattle.series.specs.Reports.{reports_of}
 use Rattle.series.specs.Making.{replaying}
@@ -53,11 +50,11 @@ use Rattle.demands.specs.Calls.{AcceptedBegin, opening, answer_on, accepted_on, 
 -- ==== Demand 1
 -- ---- 'Every batch, start grade and end grade within it, with areas of the sizes set there, gets a line-up or the answer none.'
 -- What the check answers for a walk: it is clear, or a path occurs in it.
-abbrev pub ClearOrOccurs : Checked → Type 0
-ClearOrOccurs c = (c ≡ Checked.Clear) ⊎ ((place : ℕ) × (size : ℕ) × (c ≡ Checked.Occurs place size))
+abbrev pub ClearOrOccurs : Result (Option Occurrence) Refusal → Type 0
+ClearOrOccurs c = (c ≡ Ok Prelude.None) ⊎ ((place : ℕ) × (size : ℕ) × (c ≡ Ok (Some (record { place = place; length = size }))))
 
 abbrev pub WalkOrNone : Outcome → Type 0
-WalkOrNone r = ((weight : ℕ) × (hops' : ℕ) × (r ≡ Outcome.Walk weight hops')) ⊎ (r ≡ Outcome.Nothing)
+WalkOrNone r = ((weight : ℕ) × (hops' : ℕ) × (r ≡ walked weight hops')) ⊎ (r ≡ Ok Prelude.None)
 
 -- P says which answers planning gives and what the line-up area holds then: there is such an answer, and each is a walk or none.
 pub record GetsPlan (P : Outcome → List ℕ → Type 0) : Type 0 where
@@ -67,9 +64,9 @@ pub record GetsPlan (P : Outcome → List ℕ → Type 0) : Type 0 where
 -- A book b, a batch with these flags, start and end; the runs area and the line-up area as lent.
 pub record Answers (s : List ℕ) (b : Book) (flags start end : ℕ) (paths walk : List ℕ) : Type 0 where
   -- The book is read: the counts of grades, changeovers, sheets and runs are answered.
-  pub read : read_as (reading s) ≡ Answer.Read (counts b)
+  pub read : read_as (reading s) ≡ Ok (counts b)
   -- Binding answers the count of known runs.
-  pub bound : bound_as (binding s flags paths) ≡ Bound.Known (length (known flags b.sets))
+  pub bound : bound_as (binding s flags paths) ≡ Ok (length (known flags b.sets))
   -- Planning under what binding left answers a line-up or none ...
   pub planned : GetsPlan (Planning s (area_after (binding s flags paths) paths) (length (known flags b.sets)) start end walk)
   -- ... and so does planning from the book's changeovers as a list, in any order.
@@ -79,8 +76,8 @@ pub record Answers (s : List ℕ) (b : Book) (flags start end : ℕ) (paths walk
   pub checked : (w : List ℕ) → length w ≤ longest → Walk (graph b) w
       → ClearOrOccurs (checking s (area_after (binding s flags paths) paths) (length (known flags b.sets)) w)
   -- Begin answers a record, and so does begin with any list of reports.
-  pub begun : (r : Record) × ((beginning s flags start end paths walk).answer ≡ Begun.Record r)
-  pub replayed : (reports : List ℕ) → (r : Record) × ((replaying s flags start end reports paths walk).answer ≡ Begun.Record r)
+  pub begun : (r : Record) × ((beginning s flags start end paths walk).answer ≡ Ok r)
+  pub replayed : (reports : List ℕ) → (r : Record) × ((replaying s flags start end reports paths walk).answer ≡ Ok r)
   -- Planning and the check answer under every valid runs area, not only under what binding left.
   pub planned-under : (count : ℕ) → Valid b.count paths count → GetsPlan (Planning s paths count start end walk)
   pub checked_under : (count : ℕ) → Valid b.count paths count → (w : List ℕ) → length w ≤ longest → Walk (graph b) w → ClearOrOccurs (checking s paths count w)
@@ -99,42 +96,42 @@ pub record Exactly (r : Reading) (tests : Book → List Test) (conditions : Book
 pub record Refusals (s : List ℕ) (x : Refusal) : Type 0 where
   -- 'Everything else gets its numbered refusal, under that refusal's stated condition and no other.'
   -- A book, and a list of changeovers, is refused for its first bad field or item.
-  pub read : (read_as (reading s) ≡ Answer.Refused x) ↔ (reading s ≡ refused x)
+  pub read : (read_as (reading s) ≡ Err x) ↔ (reading s ≡ refused x)
   pub read-cause : (reading s ≡ refused x) ↔ BadBook s x
   pub list_cause : (n : ℕ) (xs : List Item) → (listing n xs ≡ refused x) ↔ BadList n xs x
-  pub bind : (flags : ℕ) (area : List ℕ) → Exactly (reading s) (bind_tests area) (bind_conditions area) x (bound_as (binding s flags area) ≡ Bound.Refused x)
+  pub bind : (flags : ℕ) (area : List ℕ) → Exactly (reading s) (bind_tests area) (bind_conditions area) x (bound_as (binding s flags area) ≡ Err x)
   pub check : (area : List ℕ) (count : ℕ) (w : List ℕ)
-      → Exactly (reading s) (check_tests area count w) (check_conditions area count w) x (checking s area count w ≡ Checked.Refused x)
+      → Exactly (reading s) (check_tests area count w) (check_conditions area count w) x (checking s area count w ≡ Err x)
   pub plan : (paths : List ℕ) (count start end : ℕ) (old : List ℕ) (r : Outcome) (new : List ℕ) → Planning s paths count start end old r new
-      → Exactly (reading s) (plan_tests paths count start end old) (plan_conditions paths count start end old) x (r ≡ Outcome.Refused x)
+      → Exactly (reading s) (plan_tests paths count start end old) (plan_conditions paths count start end old) x (r ≡ Err x)
   pub plan_list : (n : ℕ) (xs : List Item) (paths : List ℕ) (count start end : ℕ) (old : List ℕ) (r : Outcome) (new : List ℕ)
       → PlanningOf (listing n xs) paths count start end old r new
-      → Exactly (listing n xs) (plan_tests paths count start end old) (plan_conditions paths count start end old) x (r ≡ Outcome.Refused x)
+      → Exactly (listing n xs) (plan_tests paths count start end old) (plan_conditions paths count start end old) x (r ≡ Err x)
   pub reach : (paths : List ℕ) (count start : ℕ) (table : List ℕ)
-      → Exactly (reading s) (reach_tests paths count start table) (reach_conditions paths count start table) x (reached (reading s) paths count start table ≡ Reached.Refused x)
+      → Exactly (reading s) (reach_tests paths count start table) (reach_conditions paths count start table) x (reached (reading s) paths count start table ≡ Err x)
   pub begin : (flags start end : ℕ) (paths walk : List ℕ)
-      → Exactly (reading s) (tests_of_begin start end paths walk) (begin_conditions start end paths walk) x ((beginning s flags start end paths walk).answer ≡ Begun.Refused x)
+      → Exactly (reading s) (tests_of_begin start end paths walk) (begin_conditions start end paths walk) x ((beginning s flags start end paths walk).answer ≡ Err x)
   pub replay : (flags start end : ℕ) (reports paths walk : List ℕ)
       → Exactly (reading s) (tests_of_begin start end paths walk) (begin_conditions start end paths walk) x
-      ((replaying s flags start end reports paths walk).answer ≡ Begun.Refused x)
+      ((replaying s flags start end reports paths walk).answer ≡ Err x)
   -- A report is passed, or failed with a named run.
   pub report : (q : Record) (paths walk : List ℕ) (ρ : Report)
       → Exactly (reading s) (report_tests q paths walk ρ) (report_conditions q paths walk ρ) x
-      ((q' : Record) × ((reporting s q paths walk ρ).answer ≡ Reported.Refused x q'))
+      ((q' : Record) × ((reporting s q paths walk ρ).answer ≡ Err (rejected x q')))
   -- '.. and a refusal writes to no lent memory.' Reading and the check are lent none to write to. 01: it 'hands back as it came a record that the call took'.
-  pub bind-keeps : (flags : ℕ) (area : List ℕ) → bound_as (binding s flags area) ≡ Bound.Refused x → area_after (binding s flags area) area ≡ area
+  pub bind-keeps : (flags : ℕ) (area : List ℕ) → bound_as (binding s flags area) ≡ Err x → area_after (binding s flags area) area ≡ area
   pub plan-keeps : (paths : List ℕ) (count start end : ℕ) (old : List ℕ) (r : Outcome) (new : List ℕ) → Planning s paths count start end old r new
-      → r ≡ Outcome.Refused x → new ≡ old
+      → r ≡ Err x → new ≡ old
   pub plan_list_keeps : (n : ℕ) (xs : List Item) (paths : List ℕ) (count start end : ℕ) (old : List ℕ) (r : Outcome) (new : List ℕ)
-      → PlanningOf (listing n xs) paths count start end old r new → r ≡ Outcome.Refused x → new ≡ old
-  pub reach-keeps : (paths : List ℕ) (count start : ℕ) (table : List ℕ) → reached (reading s) paths count start table ≡ Reached.Refused x
+      → PlanningOf (listing n xs) paths count start end old r new → r ≡ Err x → new ≡ old
+  pub reach-keeps : (paths : List ℕ) (count start : ℕ) (table : List ℕ) → reached (reading s) paths count start table ≡ Err x
       → table_after (reading s) paths count start table ≡ table
-  pub begin-keeps : (flags start end : ℕ) (paths walk : List ℕ) → (beginning s flags start end paths walk).answer ≡ Begun.Refused x
-      → beginning s flags start end paths walk ≡ answering (Begun.Refused x) paths walk
-  pub replay-keeps : (flags start end : ℕ) (reports paths walk : List ℕ) → (replaying s flags start end reports paths walk).answer ≡ Begun.Refused x
-      → replaying s flags start end reports paths walk ≡ answering (Begun.Refused x) paths walk
-  pub report-keeps : (q : Record) (paths walk : List ℕ) (ρ : Report) → (q' : Record) × ((reporting s q paths walk ρ).answer ≡ Reported.Refused x q')
-      → reporting s q paths walk ρ ≡ answering (Reported.Refused x q) paths walk
+  pub begin-keeps : (flags start end : ℕ) (paths walk : List ℕ) → (beginning s flags start end paths walk).answer ≡ Err x
+      → beginning s flags start end paths walk ≡ answering (Err x) paths walk
+  pub replay-keeps : (flags start end : ℕ) (reports paths walk : List ℕ) → (replaying s flags start end reports paths walk).answer ≡ Err x
+      → replaying s flags start end reports paths walk ≡ answering (Err x) paths walk
+  pub report-keeps : (q : Record) (paths walk : List ℕ) (ρ : Report) → (q' : Record) × ((reporting s q paths walk ρ).answer ≡ Err (rejected x q'))
+      → reporting s q paths walk ρ ≡ answering (Err (rejected x q)) paths walk
 
 -- ---- the demand
 pub record Demand1 : Type 0 where
@@ -187,11 +184,11 @@ pub record Plans (b : Book) (flags start end : ℕ) (old : List ℕ) (r : Outcom
   -- The answer is a line-up or none, never a refusal.
   pub answer : WalkOrNone r
   -- A line-up is the shortest of those that are allowed.
-  pub shortest : (litres changeovers : ℕ) → r ≡ Outcome.Walk litres changeovers → Shortest b flags start end old litres changeovers new
+  pub shortest : (litres changeovers : ℕ) → r ≡ walked litres changeovers → Shortest b flags start end old litres changeovers new
   -- 'none is the answer exactly when no such line-up exists'
-  pub none-exactly : (r ≡ Outcome.Nothing) ↔ ((v : List ℕ) → Allowed b flags start end v → ⊥)
+  pub none-exactly : (r ≡ Ok Prelude.None) ↔ ((v : List ℕ) → Allowed b flags start end v → ⊥)
   -- 01: 'If there is none, .. the line-up area is untouched.'
-  pub none-untouched : r ≡ Outcome.Nothing → new ≡ old
+  pub none-untouched : r ≡ (Ok Prelude.None) → new ≡ old
 
 -- Binding for a batch, and planning under the count that it answered and the runs area as it left it.
 pub record BatchPlans (s : List ℕ) (b : Book) (flags : ℕ) (area : List ℕ) (known' start end : ℕ) (old : List ℕ) : Type 0 where
@@ -209,24 +206,24 @@ pub record BatchPlans (s : List ℕ) (b : Book) (flags : ℕ) (area : List ℕ) 
 
 -- Two begins leave the same trials: equal answers and line-up areas; and where it is a record, runs areas with the same runs, in another order
 -- perhaps, and the same bytes after them.
-pub record SameTrials (l l' : Leaves Begun) : Type 0 where
+pub record SameTrials (l l' : Leaves (Result Record Refusal)) : Type 0 where
   pub answers : l.answer ≡ l'.answer
   pub walks : l.walk ≡ l'.walk
-  pub runs : (r : Record) → l.answer ≡ Begun.Record r → (spelled r.known l.paths ⊆ spelled r.known l'.paths) × (spelled r.known l'.paths ⊆ spelled r.known l.paths)
+  pub runs : (r : Record) → l.answer ≡ Ok r → (spelled r.known l.paths ⊆ spelled r.known l'.paths) × (spelled r.known l'.paths ⊆ spelled r.known l.paths)
   pub beyond : drop area_size l.paths ≡ drop area_size l'.paths
 
 -- Of the bytes of two books: equal plans and tables of ends.
 pub record SamePlans (s s' : List ℕ) : Type 0 where
   -- For every batch, start and end, and every line-up area, refusals included.
   pub plans : (flags : ℕ) (area area' : List ℕ) → area_size ≤ length area → area_size ≤ length area'
-      → (n n' : ℕ) → bound_as (binding s flags area) ≡ Bound.Known n → bound_as (binding s' flags area') ≡ Bound.Known n'
+      → (n n' : ℕ) → bound_as (binding s flags area) ≡ Ok n → bound_as (binding s' flags area') ≡ Ok n'
       → (start end : ℕ) (old : List ℕ) (r r' : Outcome) (new new' : List ℕ)
       → Planning s (area_after (binding s flags area) area) n start end old r new
       → Planning s' (area_after (binding s' flags area') area') n' start end old r' new'
       → (r ≡ r') × (new ≡ new')
   -- The table of every end, of every length, refusals included.
   pub tables : (flags : ℕ) (area area' : List ℕ) → area_size ≤ length area → area_size ≤ length area'
-      → (n n' : ℕ) → bound_as (binding s flags area) ≡ Bound.Known n → bound_as (binding s' flags area') ≡ Bound.Known n'
+      → (n n' : ℕ) → bound_as (binding s flags area) ≡ Ok n → bound_as (binding s' flags area') ≡ Ok n'
       → (start : ℕ) (table : List ℕ)
       → (reached (reading s) (area_after (binding s flags area) area) n start table ≡ reached (reading s') (area_after (binding s' flags area') area') n' start table)
       × (table_after (reading s) (area_after (binding s flags area) area) n start table ≡ table_after (reading s') (area_after (binding s' flags area') area') n' start table)
@@ -241,7 +238,7 @@ pub record SameAnswers (s s' : List ℕ) : Type 0 where
 pub record Demand2 : Type 0 where
   -- 'A plan under the known runs that binding gives is a shortest path avoiding forbidden subpaths': n is the count that binding answered.
   pub plan : (s : List ℕ) (b : Book) → reading s ≡ accepted b → (flags : ℕ) (area : List ℕ) → area_size ≤ length area
-      → (n : ℕ) → bound_as (binding s flags area) ≡ Bound.Known n → (start end : ℕ) → start < b.count → end < b.count → (old : List ℕ) → longest ≤ length old
+      → (n : ℕ) → bound_as (binding s flags area) ≡ Ok n → (start end : ℕ) → start < b.count → end < b.count → (old : List ℕ) → longest ≤ length old
       → BatchPlans s b flags area n start end old
   -- 'Two accepted books that differ only in the order of their sheets give equal plans.' Of what is read, and of the books' bytes.
   pub order-of_sheets : (s t : List ℕ) (b c : Book) → reading s ≡ accepted b → reading t ≡ accepted c → Reordered b c → SameAnswers s t
@@ -250,9 +247,9 @@ pub record Demand2 : Type 0 where
 -- ==== Every end from one start (02, order 1)
 -- What planning to an end says, as the two numbers of an entry.
 abbrev pub entry_for : Outcome → List ℕ
-entry_for (Outcome.Walk litres changeovers) = litres ∷ changeovers ∷ []
-entry_for Outcome.Nothing = no_end ∷ no_end ∷ []
-entry_for (Outcome.Refused x) = []
+entry_for (Ok (Some found)) = found.weight ∷ found.hops ∷ []
+entry_for (Ok Prelude.None) = no_end ∷ no_end ∷ []
+entry_for (Err x) = []
 
 -- The entry of an end in a table.
 abbrev pub entry_at : List ℕ → ℕ → List ℕ
@@ -266,15 +263,15 @@ pub record PlanTo (s paths : List ℕ) (count start end : ℕ) (r : Outcome) : T
   pub planned : Planning s paths count start end walk r new
 
 -- What the call answers, and the table after it.
-pub record EveryEnd (s : List ℕ) (b : Book) (paths : List ℕ) (count start : ℕ) (table : List ℕ) (r : Reached) (new : List ℕ) : Type 0 where
+pub record EveryEnd (s : List ℕ) (b : Book) (paths : List ℕ) (count start : ℕ) (table : List ℕ) (r : Result ℕ Refusal) (new : List ℕ) : Type 0 where
   -- The answer is the number of grades.
-  pub answer : r ≡ Reached.Filled b.count
+  pub answer : r ≡ Ok b.count
   -- 'Each entry must equal what a single plan to that grade would say': in every line-up area that fits, and planning answers in each.
   pub entry : (end : ℕ) → end < b.count → (p : Outcome) → PlanTo s paths count start end p → entry_at new end ≡ entry_for p
   pub planned : (end : ℕ) → end < b.count → (walk : List ℕ) → longest ≤ length walk → GetsPlan (Planning s paths count start end walk)
   -- 'none is the greatest 32-bit number in both': and nothing else is, in either.
-  pub none_first : (end : ℕ) → end < b.count → (get_or new (2 * end) 0 ≡ no_end) ↔ PlanTo s paths count start end Outcome.Nothing
-  pub none-second : (end : ℕ) → end < b.count → (get_or new (2 * end + 1) 0 ≡ no_end) ↔ PlanTo s paths count start end Outcome.Nothing
+  pub none_first : (end : ℕ) → end < b.count → (get_or new (2 * end) 0 ≡ no_end) ↔ PlanTo s paths count start end (Ok Prelude.None)
+  pub none-second : (end : ℕ) → end < b.count → (get_or new (2 * end + 1) 0 ≡ no_end) ↔ PlanTo s paths count start end (Ok Prelude.None)
   -- '.. the start itself with 0 and 0.'
   pub start-entry : entry_at new start ≡ 0 ∷ 0 ∷ []
   -- 'Further entries are untouched', and a number after them.
@@ -284,12 +281,12 @@ pub record EveryEnd (s : List ℕ) (b : Book) (paths : List ℕ) (count start : 
 pub record Order1 : Type 0 where
   -- Under every valid runs area; what is refused else is in demand 1 (`Refusals`).
   pub every_end : (s : List ℕ) (b : Book) → reading s ≡ accepted b → (paths : List ℕ) (count start : ℕ) → area_size ≤ length paths → Valid b.count paths count → start < b.count
-      → (table : List ℕ) → 2 * b.count ≤ length table → (r : Reached) (new : List ℕ) → Reaching (reading s) paths count start table r new
+      → (table : List ℕ) → 2 * b.count ≤ length table → (r : Result ℕ Refusal) (new : List ℕ) → Reaching (reading s) paths count start table r new
       → EveryEnd s b paths count start table r new
   -- So under the known runs that binding gives, where n is the count that it answered.
-  pub batch : (s : List ℕ) (b : Book) → reading s ≡ accepted b → (flags : ℕ) (area : List ℕ) → area_size ≤ length area → (n : ℕ) → bound_as (binding s flags area) ≡ Bound.Known n
+  pub batch : (s : List ℕ) (b : Book) → reading s ≡ accepted b → (flags : ℕ) (area : List ℕ) → area_size ≤ length area → (n : ℕ) → bound_as (binding s flags area) ≡ Ok n
       → (start : ℕ) → start < b.count → (table : List ℕ) → 2 * b.count ≤ length table
-      → (r : Reached) (new : List ℕ) → Reaching (reading s) (area_after (binding s flags area) area) n start table r new
+      → (r : Result ℕ Refusal) (new : List ℕ) → Reaching (reading s) (area_after (binding s flags area) area) n start table r new
       → EveryEnd s b (area_after (binding s flags area) area) n start table r new
 
 -- ==== Runs that come back to a grade (02, order 2)
@@ -320,9 +317,9 @@ pub record Order2 : Type 0 where
   pub in_area : (count : ℕ) (F : List (List ℕ)) → length F ≤ most_paths → Distinct F → All (IsRun count) F → (beyond : List ℕ) → Valid count (written F ++ beyond) (length F)
   pub from_lab : (s : List ℕ) (b : Book) → reading s ≡ accepted b → (q : Record) (paths walk : List ℕ) → Tried b q paths walk → q.known < most_paths
       → (r : List ℕ) → 2 ≤ length r → length r ≤ longest_path → Occurs r (take q.length walk)
-      → (q' : Record) × ((reporting s q paths walk (failed r)).answer ≡ Reported.Accepted q')
+      → (q' : Record) × ((reporting s q paths walk (failed r)).answer ≡ Ok q')
   -- Binding writes the runs of the binding sheets, whatever grades they name again: just these, each once, and as many as it answers.
-  pub bound : (s : List ℕ) (b : Book) → reading s ≡ accepted b → (flags : ℕ) (area : List ℕ) → area_size ≤ length area → (n : ℕ) → bound_as (binding s flags area) ≡ Bound.Known n
+  pub bound : (s : List ℕ) (b : Book) → reading s ≡ accepted b → (flags : ℕ) (area : List ℕ) → area_size ≤ length area → (n : ℕ) → bound_as (binding s flags area) ≡ Ok n
       → (runs : HowMany (OfSheet b flags) n) × (runs.listed ≡ spelled n (area_after (binding s flags area) area))
   -- 'A run may also name the same grade twice in succession, and then it never occurs.'
   pub never-occurs : (s : List ℕ) (b : Book) → reading s ≡ accepted b → (r : List ℕ) → Stutters r → (w : List ℕ) → Walk (graph b) w → Occurs r w → ⊥
@@ -335,7 +332,7 @@ pub record Order2 : Type 0 where
   pub plans : (s t : List ℕ) (b c : Book) → reading s ≡ accepted b → reading t ≡ accepted c → ButStutteringRuns b c → SamePlans s t
   -- From the lab it is refused under 12.
   pub never-named : (s : List ℕ) (b : Book) → reading s ≡ accepted b → (q : Record) (paths walk : List ℕ) → Tried b q paths walk → (r : List ℕ) → Stutters r
-      → (x : Refusal) × ((number_of x).number ≡ 12) × (reporting s q paths walk (failed r) ≡ answering (Reported.Refused x q) paths walk)
+      → (x : Refusal) × (number_of x ≡ 12) × (reporting s q paths walk (failed r) ≡ answering (Err (rejected x q)) paths walk)
 
 -- ==== Demand 3
 -- After an accepted begin β the reports ρs were made, each on what the one before it left. `done` are those that were answered with
@@ -364,8 +361,8 @@ module _ (β : AcceptedBegin) where
     pub ruled : l ≡ leaves_of (run g plan (first_state b flags start end paths walk) ρs)
     pub accepted-ruled : done ≡ acceptedFrom g plan (first_state b flags start end paths walk) ρs
     -- A refused report hands back the record as it came and leaves every byte; it is as if not made.
-    pub refused-kept : (m : Leaves Record) (ρ : Report) (x : Refusal) (r : Record) → answer_on s m ρ ≡ Reported.Refused x r
-        → reporting s m.answer m.paths m.walk ρ ≡ answering (Reported.Refused x m.answer) m.paths m.walk
+    pub refused-kept : (m : Leaves Record) (ρ : Report) (x : Refusal) (r : Record) → answer_on s m ρ ≡ Err (rejected x r)
+        → reporting s m.answer m.paths m.walk ρ ≡ answering (Err (rejected x m.answer)) m.paths m.walk
     pub as_if_not_made : l ≡ reports_on s (opening β) done
     -- What that comes to. Failed and passed count the accepted reports of their kind, and trials all of them.
     pub start_is : l.answer.start ≡ start
@@ -392,7 +389,7 @@ module _ (β : AcceptedBegin) where
     pub nothing-stands : l.answer.stage ≡ 2 → (l.answer.length ≡ 0) × (l.answer.litres ≡ 0)
     pub passed-stage : (l.answer.stage ≡ 1) ↔ (passes done ≡ 1)
     -- One more report is refused only for what its lab does: 11, 12, 13.
-    pub refusals : (ρ : Report) (x : Refusal) (r : Record) → answer_on s l ρ ≡ Reported.Refused x r → Memᴰ (number_of x).number (11 ∷ 12 ∷ 13 ∷ [])
+    pub refusals : (ρ : Report) (x : Refusal) (r : Record) → answer_on s l ρ ≡ Err (rejected x r) → Memᴰ (number_of x) (11 ∷ 12 ∷ 13 ∷ [])
 
   -- Demand 3, sentence by sentence, where the lab is true to R.
   pub record LabOutcome (R : List (List ℕ)) (ρs done : List Report) (l : Leaves Record) : Type 0 where
@@ -408,7 +405,7 @@ module _ (β : AcceptedBegin) where
     pub failed-bounded : l.answer.failed ≤ lacked
     pub trials-bounded : l.answer.failed + l.answer.passed ≤ lacked + 1
     -- 'While the trials are not over, no true report is refused.'
-    pub true-accepted : l.answer.stage ≡ 0 → (ρ : Report) → TrueReport R l ρ → (r : Record) × (answer_on s l ρ ≡ Reported.Accepted r)
+    pub true-accepted : l.answer.stage ≡ 0 → (ρ : Report) → TrueReport R l ρ → (r : Record) × (answer_on s l ρ ≡ Ok r)
     -- 'A passed line-up avoids the binding sheets' runs and all the lab's runs, and every other line-up from start to end that avoids them
     -- loses at least as many litres.' (It is the best of them: ties fall as in planning.)
     pub passed-avoids : l.answer.stage ≡ 1 → Free b flags R start end (standing_in l)
@@ -422,7 +419,7 @@ module _ (β : AcceptedBegin) where
   -- The same of `series::replay`, which begins and makes the reports of a list of bytes: it answers the record r, and `paths'` and `walk'` are
   -- the bytes at exit. They are what the single calls leave.
   pub record ReplayOutcome (R : List (List ℕ)) (reports : List ℕ) (r : Record) (paths' walk' : List ℕ) : Type 0 where
-    pub replayed : replaying s flags start end reports paths walk ≡ answering (Begun.Record r) paths' walk'
+    pub replayed : replaying s flags start end reports paths walk ≡ answering (Ok r) paths' walk'
     pub as_made : answering r paths' walk' ≡ reports_on s (opening β) (reports_of reports)
     pub outcome : LabOutcome R (reports_of reports) (accepted_on s (opening β) (reports_of reports)) (answering r paths' walk')
 
@@ -436,8 +433,8 @@ pub record Demand3 : Type 0 where
   -- ... and after `series::replay`, of what it answers and leaves by its contract.
   pub after-replay : (β : AcceptedBegin) (R : List (List ℕ)) → LabSet β.book β.flags R → (reports : List ℕ)
       → TrueLab R β.bytes (opening β) (reports_of reports)
-      → (a : Begun) (paths' walk' : List ℕ)
+      → (a : Result Record Refusal) (paths' walk' : List ℕ)
       → answering a paths' walk' ≡ replaying β.bytes β.flags β.start β.end reports β.paths β.walk
-      → (r : Record) × (a ≡ Begun.Record r) × ReplayOutcome β R reports r paths' walk'
+      → (r : Record) × (a ≡ Ok r) × ReplayOutcome β R reports r paths' walk'
   -- 01, 'Trials': record and areas are as the rules give them after every list, whatever the lab is.
   pub after_any : (β : AcceptedBegin) (ρs : List Report) → AsRuled β ρs (accepted_on β.bytes (opening β) ρs) (reports_on β.bytes (opening β) ρs)

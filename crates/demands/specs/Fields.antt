@@ -1,63 +1,63 @@
 -- 01, 'Who can cause a refusal', of the book's maker: 1 to 6 in words, field by field. 'The first bad field decides', and 'refusals 1 to 6 carry the
 -- byte at which the field starts'. Likewise 4 and 5 of a list of arcs, with the item's index. And that reading decides just this.
 use Prim.Native.Nat.{ℕ, suc, ◌+◌, ◌≤◌, ◌<◌}
-use Rattle.std.specs.Prelude.{◌≡◌, ◌⊎◌, length}
+use Rattle.std.specs.Prelude.{◌≡◌, ◌⊎◌, length, Option, Some, None}
 use mathlib.Core.List.{List, [], ◌∷◌, ◌++◌, Memᴰ}
 use Rattle.limits.specs.Limits.{most_vertices, most_sets, most_paths, longest_path}
 use Rattle.walks.specs.Graph.{Arc}
 use Rattle.book.specs.declared.Kind.{Kind}
-use Rattle.book.specs.declared.Kind.TheVariants.{VertexCount, Path, Unknown}
+use Rattle.book.specs.declared.Kind.TheVariants.{VertexCount, Path}
 use Rattle.book.specs.declared.Refusal.{Refusal}
 use Rattle.book.specs.Refusal.{Test}
-use Rattle.book.specs.Book.{Book, RuleSet, All, IsArc, blank, all_paths}
+use Rattle.book.specs.Book.{Book, All, IsArc, blank, all_paths}
 use Rattle.book.specs.Reading.{framing, content, extended, kind_at, length_at, end_at, count_at, arc_at, path_at, add_arc}
-use Rattle.listed.specs.declared.Arc.{Arc as Item}
+use Rattle.book.specs.declared.Arc.{Arc as Item}
 use Rattle.listed.specs.Listing.{arc_of}
 use Rattle.demands.specs.Conditions.{Condition, asks, AllHold, HasNumber, FirstFails}
 
 -- ---- the conditions of a field, after the book b that the fields before it make
 -- 2: a known tag, where the order lets it stand: the count once and first, then arcs, then rule sets, each followed by its paths.
-abbrev pub Follows : Kind → Book → Type 0
-Follows VertexCount b = b.count ≡ 0
-Follows Kind.Arc b = (0 < b.count) × (length b.sets ≡ 0)
-Follows Kind.RuleSet b = 0 < b.count
-Follows Path b = 0 < length b.sets
-Follows Unknown b = ⊥
+abbrev pub Follows : Option Kind → Book → Type 0
+Follows (Some VertexCount) b = b.count ≡ 0
+Follows (Some Kind.Arc) b = (0 < b.count) × (length b.sets ≡ 0)
+Follows (Some Kind.RuleSet) b = 0 < b.count
+Follows (Some Path) b = 0 < length b.sets
+Follows None b = ⊥
 
 -- 3: a length that its tag has.
-abbrev pub Fits : Kind → ℕ → Type 0
-Fits VertexCount n = n ≡ 1
-Fits Kind.Arc n = n ≡ 6
-Fits Kind.RuleSet n = n ≡ 2
-Fits Path n = (2 ≤ n) × (n ≤ longest_path)
-Fits Unknown n = ⊥
+abbrev pub Fits : Option Kind → ℕ → Type 0
+Fits (Some VertexCount) n = n ≡ 1
+Fits (Some Kind.Arc) n = n ≡ 6
+Fits (Some Kind.RuleSet) n = n ≡ 2
+Fits (Some Path) n = (2 ≤ n) × (n ≤ longest_path)
+Fits None n = ⊥
 
 -- 4: a count of 1 to 64; two different vertices below the count, and at most 1,000,000; a path of vertices below the count.
-abbrev pub Proper : Kind → List ℕ → Book → ℕ → Type 0
-Proper VertexCount s b at = (1 ≤ count_at s at) × (count_at s at ≤ most_vertices)
-Proper Kind.Arc s b at = IsArc b.count (arc_at s at)
-Proper Kind.RuleSet s b at = Unit {0}
-Proper Path s b at = All (λ v. v < b.count) (path_at s at)
-Proper Unknown s b at = Unit {0}
+abbrev pub Proper : Option Kind → List ℕ → Book → ℕ → Type 0
+Proper (Some VertexCount) s b at = (1 ≤ count_at s at) × (count_at s at ≤ most_vertices)
+Proper (Some Kind.Arc) s b at = IsArc b.count (arc_at s at)
+Proper (Some Kind.RuleSet) s b at = Unit {0}
+Proper (Some Path) s b at = All (λ v. v < b.count) (path_at s at)
+Proper None s b at = Unit {0}
 
 -- 5: no arc of that tail and head before it.
 abbrev pub New : List Arc → Arc → Type 0
 New arcs a = (before : Arc) → Memᴰ before arcs → before.tail ≡ a.tail → before.head ≡ a.head → ⊥
 
-abbrev pub Fresh : Kind → List ℕ → Book → ℕ → Type 0
-Fresh VertexCount s b at = Unit {0}
-Fresh Kind.Arc s b at = New b.arcs (arc_at s at)
-Fresh Kind.RuleSet s b at = Unit {0}
-Fresh Path s b at = Unit {0}
-Fresh Unknown s b at = Unit {0}
+abbrev pub Fresh : Option Kind → List ℕ → Book → ℕ → Type 0
+Fresh (Some VertexCount) s b at = Unit {0}
+Fresh (Some Kind.Arc) s b at = New b.arcs (arc_at s at)
+Fresh (Some Kind.RuleSet) s b at = Unit {0}
+Fresh (Some Path) s b at = Unit {0}
+Fresh None s b at = Unit {0}
 
 -- 6: not the 17th rule set, nor the 257th path.
-abbrev pub HasRoom : Kind → Book → Type 0
-HasRoom VertexCount b = Unit {0}
-HasRoom Kind.Arc b = Unit {0}
-HasRoom Kind.RuleSet b = length b.sets < most_sets
-HasRoom Path b = length (all_paths b.sets) < most_paths
-HasRoom Unknown b = Unit {0}
+abbrev pub HasRoom : Option Kind → Book → Type 0
+HasRoom (Some VertexCount) b = Unit {0}
+HasRoom (Some Kind.Arc) b = Unit {0}
+HasRoom (Some Kind.RuleSet) b = length b.sets < most_sets
+HasRoom (Some Path) b = length (all_paths b.sets) < most_paths
+HasRoom None b = Unit {0}
 
 -- 01: 'Within a field: 1 for the head, 2, 3, 1 for the body, 4, 5, 6.'
 abbrev pub field_conditions : List ℕ → Book → ℕ → List Condition

@@ -1,4 +1,4 @@
--- What `link` has done when the first i edges are chained, and what one turn of its loop does.
+-- What `link` has done when the first i edges are chained.
 use Prim.Native.Nat.{ℕ, ◌<◌}
 use mathlib.Core.Path.{◌≡◌}
 use mathlib.Core.List.{List}

@@ -17,7 +17,7 @@ ghost use Rattle.distances.specs.Settle.{Lowered, Rounded};
 // A cost as one number is the weight times HOPS and the number of edges, which is below it.
 pub const HOPS: u32 = 2048;
 
-// The entry of a state from which no path to a target is known.
+// The entry of a state from which no path to a target is known: above all others, so that the lesser of two entries is one comparison.
 pub const INF: u64 = 4398046511104;
 
 // An edge from one state to another, and its cost.
@@ -42,7 +42,7 @@ impl Edge {
 }
 
 // The edges with their chains: first[h] leads to the last edge into state h, and next[i] from edge i to the one before it into the
-// same state. Both hold one more than an edge's index, and 0 where there is none.
+// same state. Both hold one more than an edge's index, and 0 where there is none: Options would take twice the memory.
 #[derive(Clone, Copy)]
 pub struct Chained<'a> {
     pub edges: &'a [Edge],
@@ -51,6 +51,8 @@ pub struct Chained<'a> {
     pub ghost linked: { Linked edges.now first.now next.now },
 }
 
+// That edges and table fit (`Ready`) stands in clauses, since it speaks of both.
+//
 // One pass: every edge lowers the entry at its tail in `new` to what it costs by the entry at its head in `old`.
 // Answers whether an entry was lowered.
 pub fn pass(edges: &[Edge], old: &[u64], new: &mut [u64]) -> bool
@@ -107,7 +109,7 @@ pub fn link(edges: &[Edge], first: &mut [u32], next: &mut [u32])
 fn lower(chained: Chained, table: &mut [u64], h: usize)
     requires ready { Ready chained.edges.now table.old }
     requires first_len { length chained.first.now ≡ length table.old }
-    requires h_in_bounds { h < length table.old }
+    requires within { h < length table.old }
     ensures { Lowered chained.entry.edges.now h table.old table.new }
 {
     let d = table[h];

@@ -25,7 +25,7 @@ use Rattle.product.specs.Base.{base, targets, directed, at_base, within-directed
 use Rattle.routes.specs.Route.{length-route}
 use Rattle.routes.proofs.Route.{walk-best, walk-weight, start_none}
 use Rattle.routes.specs.Plan.{Measured}
-use Rattle.routes.proofs.Plan.{prepared-fits}
+use Rattle.routes.proofs.Planned.{prepared-fits}
 use Rattle.ends.specs.Ends.{entry_of, ends}
 use Rattle.ends.proofs.EndsLaws.{entry-best, entry-none}
 use Rattle.ends.specs.Least.{least_at, told, numbers, entries, Standing}

@@ -1,5 +1,5 @@
 -- What one turn of the loop of `tell` does, when the numbers of the vertices below v are written.
-use Rattle.std.proofs.Common.{◌≡◌, refl, ℕ, suc, ◌+◌, ◌*◌, ◌<◌, ◌≤◌, List, [], ◌∷◌, ◌++◌, length, drop, set, ap, ◌∙◌, add-one, append_assoc, arith, length-append, drop-cons}
+use Rattle.std.proofs.Common.{◌≡◌, refl, ℕ, suc, ◌+◌, ◌*◌, ◌<◌, List, [], ◌∷◌, ◌++◌, length, drop, set, ap, ◌∙◌, add-one, append_assoc, arith, length-append, drop-cons}
 use Rattle.std.proofs.Math.Seq.{set_at}
 use Rattle.ends.specs.Least.{told, numbers}
 use Rattle.ends.proofs.Least.{length-numbers}

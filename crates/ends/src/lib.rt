@@ -14,7 +14,6 @@ pub const NO_END: u32 = 4294967295;
 
 // Lowers the entry of each vertex to the least distance of a state that stands at it: by weight, then by hops, which one number
 // holds.
-#[tactic(auto, using(crate::proofs::Gathering::gathered_none, crate::proofs::Gathering::gathered_lower, crate::proofs::Gathering::gathered_keep))]
 fn gather(latest: &[u8], table: &[u64], least: &mut [u64; MOST_VERTICES])
     requires room { length table.now ≤ length latest.now }
     requires stands { (q : ℕ) → q < length table.now → at latest.now q < most_vertices }
@@ -36,10 +35,10 @@ fn tell(n: usize, least: &[u64; MOST_VERTICES], ends: &mut [u32])
     requires room { 2 * n ≤ length ends.old }
     ensures { ends.new ≡ numbers (at least.now) n ++ drop (2 * n) ends.old }
 {
-    for v in 0..n {
-        let d = least[v];
-        let (weight, hops) = if d < INF {
-            ((d / HOPS as u64) as u32, (d % HOPS as u64) as u32)
+    // by index: of a slice that `chunks_exact_mut` lends out a proof knows the length alone
+    for (v, d) in least[..n].iter().enumerate() {
+        let (weight, hops) = if *d < INF {
+            ((*d / HOPS as u64) as u32, (*d % HOPS as u64) as u32)
         } else {
             (NO_END, NO_END)
         };

@@ -1,6 +1,6 @@
 -- The sums of 02, order 2: runs that come back to a grade, on book A under marks 3, start 0, end 3. What the operations answer is from the bytes of a book,
 -- and for all lent areas that are long enough.
-use Rattle.std.specs.Prelude.{ℕ, ◌≤◌, ◌≡◌, refl, List, [], ◌∷◌, ◌++◌, length, drop}
+use Rattle.std.specs.Prelude.{ℕ, ◌≤◌, ◌≡◌, refl, List, [], ◌∷◌, ◌++◌, length, drop, Ok}
 use Rattle.std.proofs.Common.{sym, ap, subst, inl, arith, length-append}
 use mathlib.Core.List.Memᴰ
 use Rattle.std.proofs.Math.Option.{none, some}
@@ -11,19 +11,15 @@ use Rattle.walks.specs.Best.{Feasible}
 use Rattle.walks.proofs.Best.{Best-mono}
 use Rattle.walks.specs.Feasible.{is_feasible}
 use Rattle.walks.proofs.Feasible.{is_feasible→Feasible}
-use Rattle.book.specs.declared.Answer.TheVariants.{Read}
 use Rattle.book.specs.declared.Refusal.TheVariants.{NotStanding}
 use Rattle.book.specs.Book.{all_paths, is_path, are_vertices}
 use Rattle.book.specs.Reading.{reading, read_as}
-use Rattle.rules.specs.declared.Bound.TheVariants.{Known}
 use Rattle.rules.specs.Binding.{covers, applied, once}
 use Rattle.rules.specs.Area.{written}
 use Rattle.rules.proofs.ValidLaws.{written-valid, written-spells}
 use Rattle.rules.specs.Operations.{binding, bound_as}
 use Rattle.limits.specs.Limits.{area_size, longest}
-use Rattle.planner.specs.declared.Outcome.{Outcome}
-use Rattle.planner.specs.declared.Outcome.TheVariants.{Walk}
-use Rattle.planner.specs.Planning.{Planning}
+use Rattle.planner.specs.Planning.{Planning, walked, Answer as Outcome}
 use Rattle.trial_rules.specs.Trials.{failed, ForbiddenSet, refusal, is_forbidden_set}
 use Rattle.trial_rules.proofs.Tests.{is_forbidden_set→, set-paths, set-once}
 use Rattle.series.specs.Reports.{reports_in}
@@ -55,27 +51,27 @@ pub record Sums : Type 0 where
   pub named-121 : Leads begun-3 (failed (1 ∷ 2 ∷ 1 ∷ [])) after-121
   pub list_121 : Replays 3 (1 ∷ 3 ∷ 1 ∷ 2 ∷ 1 ∷ []) after-121
   -- Planning under a runs area with these three: 0 1 3, 500, 2 changeovers. 0 2 1 2 3 avoids them too and loses 500, in 4 changeovers.
-  pub under-121 : PlansUnder runs-121 (Walk 500 2) (0 ∷ 1 ∷ 3 ∷ [])
+  pub under-121 : PlansUnder runs-121 (walked 500 2) (0 ∷ 1 ∷ 3 ∷ [])
   pub as_light : Feasible graph_a runs-121 0 3 (0 ∷ 2 ∷ 1 ∷ 2 ∷ 3 ∷ []) × (weight_of graph_a (0 ∷ 2 ∷ 1 ∷ 2 ∷ 3 ∷ []) ≡ 500) × (hops (0 ∷ 2 ∷ 1 ∷ 2 ∷ 3 ∷ []) ≡ 4)
   -- With one more sheet, which needs 0 and has the run 1 1: it is read, with a sheet and a run more than book A; three runs are known; the plan is as
   -- without it, 0 1 2 1 2 3, 450, 5 changeovers, and `plan` prints it.
-  pub read-A : read_as (reading bytes_a) ≡ Read (record { vertices = 4; arcs = 6; sets = 2; paths = 2 })
-  pub read-11 : read_as (reading bytes_stutter) ≡ Read (record { vertices = 4; arcs = 6; sets = 3; paths = 3 })
-  pub bound-11 : (paths : List ℕ) → area_size ≤ length paths → bound_as (binding bytes_stutter 3 paths) ≡ Known 3
-  pub plan-11 : Plans bytes_stutter 3 0 3 (Walk 450 5) (0 ∷ 1 ∷ 2 ∷ 1 ∷ 2 ∷ 3 ∷ [])
+  pub read-A : read_as (reading bytes_a) ≡ Ok (record { vertices = 4; arcs = 6; sets = 2; paths = 2 })
+  pub read-11 : read_as (reading bytes_stutter) ≡ Ok (record { vertices = 4; arcs = 6; sets = 3; paths = 3 })
+  pub bound-11 : (paths : List ℕ) → area_size ≤ length paths → bound_as (binding bytes_stutter 3 paths) ≡ Ok 3
+  pub plan-11 : Plans bytes_stutter 3 0 3 (walked 450 5) (0 ∷ 1 ∷ 2 ∷ 1 ∷ 2 ∷ 3 ∷ [])
   pub printed_11 : Prints (0 ∷ 3 ∷ 0 ∷ 3 ∷ bytes_stutter) listing
   -- Named at the start of marks 3, where 0 1 2 1 2 3 stands: 2 1 2 and 2 1 2 3 are taken; 3 4, whose 4 is no grade, is refused under 12.
   pub takes-212 : ForLent (λ paths walk. refusal graph_a (begun-3 paths walk) (failed (2 ∷ 1 ∷ 2 ∷ [])) ≡ none)
   pub takes-2123 : ForLent (λ paths walk. refusal graph_a (begun-3 paths walk) (failed (2 ∷ 1 ∷ 2 ∷ 3 ∷ [])) ≡ none)
   pub refuses-34 : ForLent (λ paths walk. refusal graph_a (begun-3 paths walk) (failed (3 ∷ 4 ∷ [])) ≡ some NotStanding)
 
-plans-under : (F : List (List ℕ)) → ForbiddenSet 4 F → (w : List ℕ) (n k : ℕ) → Plan graph_a F 0 3 w n k → PlansUnder F (Walk n k) w
+plans-under : (F : List (List ℕ)) → ForbiddenSet 4 F → (w : List ℕ) (n k : ℕ) → Plan graph_a F 0 3 w n k → PlansUnder F (walked n k) w
 plans-under F set w n k p beyond walk long =
     let paths = set-paths 4 F set in
     let different = set-once 4 F set in
     let fits : area_size ≤ length (written F ++ beyond) = simp (length-append, length-replicate) (omega arith) in
     under bytes_a book_a book-A 0 3 refl refl (written F ++ beyond) (length F) F fits (written-valid 4 F set.few paths different beyond)
-    (written-spells 4 F set.few paths different beyond) walk long (Walk n k) (w ++ drop (length w) walk)
+    (written-spells 4 F set.few paths different beyond) walk long (walked n k) (w ++ drop (length w) walk)
     (record { walk = w; best = p.best; weight_is = sym p.weighs; hops-is = sym p.takes; area-is = refl })
 
 -- the plan avoids 1 1 too
@@ -94,7 +90,7 @@ sums =
       read-A = ap read_as book-A;
       read-11 = ap read_as book_stutter_lem;
       bound-11 = λ paths fits. ap bound_as (binds bytes_stutter book_stutter book_stutter_lem 3 paths fits);
-      plan-11 = plans bytes_stutter book_stutter book_stutter_lem 3 0 3 (Walk 450 5) best_a (walk-given bytes_stutter book_stutter book_stutter_lem 3 0 3 refl refl best_a 450 5 best-11);
+      plan-11 = plans bytes_stutter book_stutter book_stutter_lem 3 0 3 (walked 450 5) best_a (walk-given bytes_stutter book_stutter book_stutter_lem 3 0 3 refl refl best_a 450 5 best-11);
       printed_11 = prints (0 ∷ 3 ∷ 0 ∷ 3 ∷ bytes_stutter) listing (subst (λ x. AnsweredOf x 3 0 3 listing) (sym book_stutter_lem) (inl (best_a, best-11.best, refl)));
       takes-212 = λ paths walk fits long. at-start paths walk fits long (2 ∷ 1 ∷ 2 ∷ []);
       takes-2123 = λ paths walk fits long. at-start paths walk fits long (2 ∷ 1 ∷ 2 ∷ 3 ∷ []);

@@ -1,5 +1,5 @@
 -- The sums of 02, order 1: the table of ends of book A under marks 3, from the bytes of the book and for all lent areas that are long enough.
-use Rattle.std.specs.Prelude.{ℕ, ◌*◌, ◌≤◌, ◌≡◌, length, drop}
+use Rattle.std.specs.Prelude.{ℕ, ◌*◌, ◌≤◌, ◌≡◌, length, drop, Ok}
 use mathlib.Core.List.{List, [], ◌∷◌, ◌++◌}
 use Rattle.states.specs.Chosen.{chosen}
 use Rattle.book.specs.Reading.{reading}
@@ -7,7 +7,6 @@ use Rattle.rules.specs.Binding.{known}
 use Rattle.rules.specs.Operations.{Binding, binding, area_after}
 use Rattle.limits.specs.Limits.{area_size}
 use Rattle.ends.specs.Ends.{no_end, entry_of}
-use Rattle.reach.specs.declared.Reached.TheVariants.{Filled}
 use Rattle.reach.specs.Reaching.{reached, table_after}
 use Rattle.examples.specs.Books.{bytes_a, book_a}
 use Rattle.examples.specs.Sums.{graph_a}
@@ -17,7 +16,7 @@ abbrev pub Fills : List ℕ → ℕ → ℕ → ℕ → List ℕ → Type 0
 Fills s flags start n numbers =
     (paths table : List ℕ) → area_size ≤ length paths → 2 * n ≤ length table
     → (F : List (List ℕ)) × (binding s flags paths ≡ Binding.bound F)
-    × (reached (reading s) (area_after (binding s flags paths) paths) (length F) start table ≡ Filled n)
+    × (reached (reading s) (area_after (binding s flags paths) paths) (length F) start table ≡ Ok n)
     × (table_after (reading s) (area_after (binding s flags paths) paths) (length F) start table ≡ numbers ++ drop (2 * n) table)
 
 -- Start 0: 0 litres and 0 changeovers, 100 and 1, 200 and 2, 450 and 5. Start 3: none, none, none, 0 and 0.

@@ -6,9 +6,8 @@ use Rattle.book.specs.declared.Refusal.TheVariants.{Value, Repeated}
 use Rattle.examples.specs.Books.{bytes_a, book_a, book-A}
 use Rattle.book.specs.Reading.{accepted, refused}
 use Rattle.rules.specs.Operations.{Binding, binding, area_after}
-use Rattle.planner.specs.declared.Outcome.TheVariants.{Walk}
 use Rattle.limits.specs.Limits.{longest}
-use Rattle.planner.specs.Planning.{PlanningOf}
+use Rattle.planner.specs.Planning.{PlanningOf, walked}
 use Rattle.examples.specs.Plans.{Only, sums}
 use Rattle.listed.specs.declared.Arc.{Arc}
 use Rattle.listed.specs.Listing.{items, listing}
@@ -27,15 +26,15 @@ arcs_a = with_last (arc 1 3 400)
 
 -- The sum of 01 with marks 3, from the list: under the runs that book A binds, for every area of 1,600 bytes or more.
 pub list_A : (area : List ℕ) (F : List (List ℕ)) → binding bytes_a 3 area ≡ Binding.bound F → (old : List ℕ) → longest ≤ length old
-    → Only (PlanningOf (listing 4 arcs_a) (area_after (binding bytes_a 3 area) area) (length F) 0 3 old) (Walk 450 5) ((0 ∷ 1 ∷ 2 ∷ 1 ∷ 2 ∷ 3 ∷ []) ++ drop 6 old)
+    → Only (PlanningOf (listing 4 arcs_a) (area_after (binding bytes_a 3 area) area) (length F) 0 3 old) (walked 450 5) ((0 ∷ 1 ∷ 2 ∷ 1 ∷ 2 ∷ 3 ∷ []) ++ drop 6 old)
 list_A area F is old long =
     let after = area_after (binding bytes_a 3 area) area in
     let new = (0 ∷ 1 ∷ 2 ∷ 1 ∷ 2 ∷ 3 ∷ []) ++ drop 6 old in
     let given = sums.marks_3 area F is old long in
     record {
       meets =
-          subst (λ x. PlanningOf x after (length F) 0 3 old (Walk 450 5) new) (sym (listed-book bytes_a book_a book-A arcs_a (Permᴰ.refl book_a.arcs)))
-          (subst (λ x. PlanningOf x after (length F) 0 3 old (Walk 450 5) new) book-A given.meets);
+          subst (λ x. PlanningOf x after (length F) 0 3 old (walked 450 5) new) (sym (listed-book bytes_a book_a book-A arcs_a (Permᴰ.refl book_a.arcs)))
+          (subst (λ x. PlanningOf x after (length F) 0 3 old (walked 450 5) new) book-A given.meets);
       alone = λ r new' p. given.alone r new' (from-book bytes_a book_a book-A 4 arcs_a refl (Permᴰ.refl book_a.arcs) after (length F) 0 3 old r new' p);
     }
 

@@ -17,10 +17,8 @@ use Rattle.rules.proofs.BindingLaws.{known-paths}
 use Rattle.rules.specs.Area.{spelled, valid}
 use Rattle.rules.specs.Operations.{Binding, binding, area_after}
 use Rattle.rules.proofs.Laws.{bind-accepted}
-use Rattle.planner.specs.declared.Outcome.{Outcome}
-use Rattle.planner.specs.declared.Outcome.TheVariants.{Walk, Nothing}
 use Rattle.limits.specs.Limits.{area_size, longest}
-use Rattle.planner.specs.Planning.{plan_tests, Planned, PlanningOf, Planning}
+use Rattle.planner.specs.Planning.{plan_tests, Planned, PlanningOf, Planning, walked, nothing, Answer as Outcome}
 use Rattle.planner.proofs.RuleSets.{planned-same}
 
 -- r and `new` meet what is said of an answer and its area, and nothing else does.
@@ -60,25 +58,25 @@ module _ (s : List ℕ) (b : Book) (read : reading s ≡ accepted b) (flags star
       let spells : spelled (length F) after ≡ known flags b.sets = f.spells ∙ f.paths ∙ ap (λ (x : Book). known flags x.sets) b-is in
       under s b read start end start-below end_Below after (length F) (known flags b.sets) f.long valid-b spells old long r (w ++ drop (length w) old) (have old)
 
-  pub walk-given : (w : List ℕ) (n k : ℕ) → Plan (graph b) (known flags b.sets) start end w n k → Gives s flags start end (Walk n k) w
-  walk-given w n k p = given (Walk n k) w (λ old. record { walk = w; best = p.best; weight_is = sym p.weighs; hops-is = sym p.takes; area-is = refl })
+  pub walk-given : (w : List ℕ) (n k : ℕ) → Plan (graph b) (known flags b.sets) start end w n k → Gives s flags start end (walked n k) w
+  walk-given w n k p = given (walked n k) w (λ old. record { walk = w; best = p.best; weight_is = sym p.weighs; hops-is = sym p.takes; area-is = refl })
 
-  none-given : None (graph b) (known flags b.sets) start end → Gives s flags start end Nothing []
-  none-given n = given Nothing [] (λ old. (n, refl))
+  none-given : None (graph b) (known flags b.sets) start end → Gives s flags start end nothing []
+  none-given n = given nothing [] (λ old. (n, refl))
 
 -- Book A is well formed, so that its known paths have two vertices or more.
 well-A : WellFormed book_a
 well-A = (reading-is-book bytes_a book_a book-A).well_formed
 
 pub record Sums : Type 0 where
-  pub marks_0 : Gives bytes_a 0 0 3 (Walk 300 3) (0 ∷ 1 ∷ 2 ∷ 3 ∷ [])
-  pub marks_1 : Gives bytes_a 1 0 3 (Walk 350 2) (0 ∷ 2 ∷ 3 ∷ [])
-  pub marks_2 : Gives bytes_a 2 0 3 (Walk 300 3) (0 ∷ 1 ∷ 2 ∷ 3 ∷ [])
-  pub marks_3 : Gives bytes_a 3 0 3 (Walk 450 5) (0 ∷ 1 ∷ 2 ∷ 1 ∷ 2 ∷ 3 ∷ [])
-  pub back : (flags : ℕ) → Gives bytes_a flags 3 0 Nothing []
-  pub stay : (flags : ℕ) → Gives bytes_a flags 3 3 (Walk 0 0) (3 ∷ [])
-  pub lower_vertex : (flags : ℕ) → Gives bytes_ways flags 0 3 (Walk 200 2) (0 ∷ 1 ∷ 3 ∷ [])
-  pub fewer-hops : (flags : ℕ) → Gives bytes_shortcut flags 0 3 (Walk 200 1) (0 ∷ 3 ∷ [])
+  pub marks_0 : Gives bytes_a 0 0 3 (walked 300 3) (0 ∷ 1 ∷ 2 ∷ 3 ∷ [])
+  pub marks_1 : Gives bytes_a 1 0 3 (walked 350 2) (0 ∷ 2 ∷ 3 ∷ [])
+  pub marks_2 : Gives bytes_a 2 0 3 (walked 300 3) (0 ∷ 1 ∷ 2 ∷ 3 ∷ [])
+  pub marks_3 : Gives bytes_a 3 0 3 (walked 450 5) (0 ∷ 1 ∷ 2 ∷ 1 ∷ 2 ∷ 3 ∷ [])
+  pub back : (flags : ℕ) → Gives bytes_a flags 3 0 nothing []
+  pub stay : (flags : ℕ) → Gives bytes_a flags 3 3 (walked 0 0) (3 ∷ [])
+  pub lower_vertex : (flags : ℕ) → Gives bytes_ways flags 0 3 (walked 200 2) (0 ∷ 1 ∷ 3 ∷ [])
+  pub fewer-hops : (flags : ℕ) → Gives bytes_shortcut flags 0 3 (walked 200 1) (0 ∷ 3 ∷ [])
 
 pub sums : Sums
 unfolding covers applied

@@ -1,12 +1,10 @@
 -- Sums of 01 on binding and checking, computed from the definitions: book A.
-use Rattle.std.specs.Prelude.{ℕ, List, [], ◌∷◌, ◌++◌, ◌≡◌, refl, set, replicate}
+use Rattle.std.specs.Prelude.{ℕ, List, [], ◌∷◌, ◌++◌, ◌≡◌, refl, set, replicate, Some, None, Ok, Err}
 use Rattle.book.specs.declared.Refusal.TheVariants.{Invalid, NotAWalk}
 use Rattle.book.specs.Book.{all_paths, is_path, are_vertices}
 use Rattle.examples.specs.Books.{bytes_a}
 use Rattle.book.specs.Reading.{reading, fields, add_path}
 use Rattle.book.specs.Tables.{entries}
-use Rattle.rules.specs.declared.Bound.TheVariants.{Known}
-use Rattle.walk_check.specs.declared.Checked.TheVariants.{Clear, Occurs, Refused}
 use Rattle.rules.specs.Binding.{covers, applied, once}
 use Rattle.rules.specs.Area.{written, blocks}
 use Rattle.walk_check.specs.Checking.{first_from, check_from}
@@ -20,7 +18,7 @@ lent = replicate 2304 7 ++ (9 ∷ [])
 -- What binding answers to a batch, and the bytes that it leaves, after them those of `rest` zeros and the byte.
 abbrev Binds : ℕ → ℕ → List ℕ → ℕ → Type 0
 Binds flags count bytes rest =
-    (bound_as (binding bytes_a flags lent) ≡ Known count) × (area_after (binding bytes_a flags lent) lent ≡ bytes ++ (replicate rest 0 ++ (9 ∷ [])))
+    (bound_as (binding bytes_a flags lent) ≡ Ok count) × (area_after (binding bytes_a flags lent) lent ≡ bytes ++ (replicate rest 0 ++ (9 ∷ [])))
 
 pub marks_0 : Binds 0 0 [] 2304
 unfolding reading fields is_path are_vertices add_path all_paths entries covers applied
@@ -42,28 +40,28 @@ marks_3 = (refl, refl)
 abbrev area-3 : List ℕ
 area-3 = area_after (binding bytes_a 3 lent) lent
 
-pub clear : checking bytes_a area-3 2 (0 ∷ 1 ∷ 2 ∷ 1 ∷ 2 ∷ 3 ∷ []) ≡ Clear
+pub clear : checking bytes_a area-3 2 (0 ∷ 1 ∷ 2 ∷ 1 ∷ 2 ∷ 3 ∷ []) ≡ Ok None
 unfolding reading fields is_path are_vertices add_path all_paths entries covers applied once blocks first_from check_from
 clear = refl
 
-pub run-found : checking bytes_a area-3 2 (0 ∷ 1 ∷ 2 ∷ 3 ∷ []) ≡ Occurs 0 4
+pub run-found : checking bytes_a area-3 2 (0 ∷ 1 ∷ 2 ∷ 3 ∷ []) ≡ Ok (Some (record { place = 0; length = 4 }))
 unfolding reading fields is_path are_vertices add_path all_paths entries covers applied once blocks first_from check_from
 run-found = refl
 
 -- Two paths with one end: the shorter is named. Two ends: the earlier is.
-pub shorter_named : checking bytes_a (written ((1 ∷ 2 ∷ 3 ∷ []) ∷ (2 ∷ 3 ∷ []) ∷ [])) 2 (0 ∷ 1 ∷ 2 ∷ 3 ∷ []) ≡ Occurs 2 2
+pub shorter_named : checking bytes_a (written ((1 ∷ 2 ∷ 3 ∷ []) ∷ (2 ∷ 3 ∷ []) ∷ [])) 2 (0 ∷ 1 ∷ 2 ∷ 3 ∷ []) ≡ Ok (Some (record { place = 2; length = 2 }))
 unfolding reading fields is_path are_vertices add_path all_paths entries once blocks first_from check_from
 shorter_named = refl
 
-pub earlier-named : checking bytes_a (written ((2 ∷ 3 ∷ []) ∷ (0 ∷ 1 ∷ 2 ∷ []) ∷ [])) 2 (0 ∷ 1 ∷ 2 ∷ 3 ∷ []) ≡ Occurs 0 3
+pub earlier-named : checking bytes_a (written ((2 ∷ 3 ∷ []) ∷ (0 ∷ 1 ∷ 2 ∷ []) ∷ [])) 2 (0 ∷ 1 ∷ 2 ∷ 3 ∷ []) ≡ Ok (Some (record { place = 0; length = 3 }))
 unfolding reading fields is_path are_vertices add_path all_paths entries once blocks first_from check_from
 earlier-named = refl
 
 -- 3 to 0 is no arc; an unused byte that is not 0 is refused first.
-pub no_walk : checking bytes_a area-3 2 (3 ∷ 0 ∷ []) ≡ Refused NotAWalk
+pub no_walk : checking bytes_a area-3 2 (3 ∷ 0 ∷ []) ≡ Err NotAWalk
 unfolding reading fields is_path are_vertices add_path all_paths entries covers applied once blocks first_from check_from
 no_walk = refl
 
-pub unused_byte : checking bytes_a (set area-3 8 1) 2 (3 ∷ 0 ∷ []) ≡ Refused Invalid
+pub unused_byte : checking bytes_a (set area-3 8 1) 2 (3 ∷ 0 ∷ []) ≡ Err Invalid
 unfolding reading fields is_path are_vertices add_path all_paths entries covers applied once blocks first_from check_from
 unused_byte = refl

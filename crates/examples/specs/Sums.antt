@@ -1,16 +1,14 @@
 -- 01's settled sums: those that 01 stars, in its order. Each is from the bytes of a book, and for all lent areas that are long enough.
-use Rattle.std.specs.Prelude.{ℕ, ◌≤◌, ◌≡◌, true, List, [], ◌∷◌, ◌++◌, T, length, drop}
+use Rattle.std.specs.Prelude.{ℕ, ◌≤◌, ◌≡◌, List, [], ◌∷◌, ◌++◌, T, length, drop, Some, Ok, Err}
 use Rattle.std.proofs.Math.Path.{refl, ap}
 use Rattle.std.proofs.Common.{ap₂, ◌∙◌, arith, le-leb, length-append, length-drop}
 use Rattle.std.proofs.Math.Option.{Option, none}
 use Rattle.walks.specs.Graph.{Graph}
 use Rattle.walks.specs.Best.{Best}
 use Rattle.walks.specs.Feasible.{is_feasible}
-use Rattle.book.specs.declared.Answer.{Answer}
-use Rattle.book.specs.declared.Answer.TheVariants.{Read}
 use Rattle.book.specs.declared.Refusal.{Refusal}
 use Rattle.book.specs.declared.Refusal.TheVariants.{Truncated, Value}
-use Rattle.book.specs.Refusal.{number_of, refusal_by}
+use Rattle.book.specs.Refusal.{number_of, place_of, refusal_by}
 use Rattle.book.proofs.RefusalLaws.{hold→none}
 use Rattle.book.specs.Book.{Book, WellFormed, all_paths, graph, is_path, are_vertices}
 use Rattle.book.proofs.BookLaws.{reading-is-book}
@@ -21,12 +19,8 @@ use Rattle.examples.specs.Walks.{marks_3, named-123, named-13}
 use Rattle.rules.specs.Binding.{covers, applied, known, once}
 use Rattle.limits.specs.Limits.{area_size, longest}
 use Rattle.rules.specs.Operations.{Binding, bound_unless, bind_tests, binding_of, binding, area_after}
-use Rattle.planner.specs.declared.Outcome.{Outcome}
-use Rattle.planner.specs.declared.Outcome.TheVariants.{Walk, Nothing}
-use Rattle.planner.specs.Planning.{Planning}
+use Rattle.planner.specs.Planning.{Planning, walked, nothing, Answer as Outcome}
 use Rattle.examples.specs.Plans.{Only, Gives, sums as planning}
-use Rattle.trials.specs.declared.Begun.{Begun}
-use Rattle.trials.specs.declared.Reported.{Reported}
 use Rattle.trial_rules.specs.Trials.{Report, failed, State, path_area, trials, begin_tests, oracle_tests, Valid, is_forbidden_set, is_record, is_valid, begin_refusal, refusal, Plan, Planner, holding, unless, step, after, run}
 use Rattle.series.specs.Reports.{reports_in, reports_of}
 use Rattle.trials.specs.Operations.{Leaves, answering, begun_as, first_state, beginning_of, beginning, reported_as, reporting_of, reporting}
@@ -41,7 +35,7 @@ use Rattle.trials.specs.OperationLaws.{same_step}
 abbrev pub ForLent : (List ℕ → List ℕ → Type 0) → Type 0
 ForLent P = (paths walk : List ℕ) → area_size ≤ length paths → longest ≤ length walk → P paths walk
 
--- Planning: the book binds, and planning under the known runs F answers r (`Walk litres changeovers`, or `Nothing`) and nothing else, with
+-- Planning: the book binds, and planning under the known runs F answers r (`walked litres changeovers`, or `nothing`) and nothing else, with
 -- w in the front of the line-up area and the bytes after it as lent.
 abbrev pub Plans : List ℕ → ℕ → ℕ → ℕ → Outcome → List ℕ → Type 0
 Plans s flags start end r w =
@@ -58,18 +52,18 @@ leaving a σ = answering a (path_area σ) σ.area
 
 -- Begin under these marks leads to σ.
 abbrev pub Begins : ℕ → Stands → Type 0
-Begins flags σ = ForLent (λ paths walk. beginning bytes_a flags 0 3 paths walk ≡ leaving (Begun.Record (σ paths walk).rec) (σ paths walk))
+Begins flags σ = ForLent (λ paths walk. beginning bytes_a flags 0 3 paths walk ≡ leaving (Ok (σ paths walk).rec) (σ paths walk))
 
 -- A report on what stands at σ is accepted and leads to τ.
 abbrev pub Leads : Stands → Report → Stands → Type 0
 Leads σ ρ τ =
     ForLent (λ paths walk. reporting bytes_a (σ paths walk).rec (path_area (σ paths walk)) (σ paths walk).area ρ
-    ≡ leaving (Reported.Accepted (τ paths walk).rec) (τ paths walk))
+    ≡ leaving (Ok (τ paths walk).rec) (τ paths walk))
 
 -- Begin under these marks and then a list of reports, as bytes, lead to σ.
 abbrev pub Replays : ℕ → List ℕ → Stands → Type 0
 Replays flags reports σ =
-    ForLent (λ paths walk. replaying bytes_a flags 0 3 reports paths walk ≡ leaving (Begun.Record (σ paths walk).rec) (σ paths walk))
+    ForLent (λ paths walk. replaying bytes_a flags 0 3 reports paths walk ≡ leaving (Ok (σ paths walk).rec) (σ paths walk))
 
 -- Marks 3: 0 1 2 1 2 3, 450.
 abbrev pub begun-3 : Stands
@@ -106,15 +100,15 @@ after-13 paths walk =
 
 -- Reading is refused under 01's number n, at a byte.
 abbrev pub Refuses : List ℕ → ℕ → ℕ → Type 0
-Refuses s n at = (x : Refusal) × (read_as (reading s) ≡ Answer.Refused x) × (number_of x ≡ record { number = n; placed = true; place = at })
+Refuses s n at = (x : Refusal) × (read_as (reading s) ≡ Err x) × (number_of x ≡ n) × (place_of x ≡ Some at)
 
 -- ---- the list
 pub record Sums : Type 0 where
   -- Book A, start 0, end 3. Marks 0: 0 1 2 3, 300. Marks 1: 0 2 3, 350. Marks 2: 0 1 2 3, 300. Marks 3: 0 1 2 1 2 3, 450, 5 changeovers.
-  pub marks_0 : Plans bytes_a 0 0 3 (Walk 300 3) (0 ∷ 1 ∷ 2 ∷ 3 ∷ [])
-  pub marks_1 : Plans bytes_a 1 0 3 (Walk 350 2) (0 ∷ 2 ∷ 3 ∷ [])
-  pub marks_2 : Plans bytes_a 2 0 3 (Walk 300 3) (0 ∷ 1 ∷ 2 ∷ 3 ∷ [])
-  pub marks_3 : Plans bytes_a 3 0 3 (Walk 450 5) (0 ∷ 1 ∷ 2 ∷ 1 ∷ 2 ∷ 3 ∷ [])
+  pub marks_0 : Plans bytes_a 0 0 3 (walked 300 3) (0 ∷ 1 ∷ 2 ∷ 3 ∷ [])
+  pub marks_1 : Plans bytes_a 1 0 3 (walked 350 2) (0 ∷ 2 ∷ 3 ∷ [])
+  pub marks_2 : Plans bytes_a 2 0 3 (walked 300 3) (0 ∷ 1 ∷ 2 ∷ 3 ∷ [])
+  pub marks_3 : Plans bytes_a 3 0 3 (walked 450 5) (0 ∷ 1 ∷ 2 ∷ 1 ∷ 2 ∷ 3 ∷ [])
   -- From marks 3, named 1 2 3: then 0 1 3, 500. Then named 1 3: none, failed 2, trials 2. By the single operations, and as lists of reports.
   pub from_marks_3 : Begins 3 begun-3
   pub named-123 : Leads begun-3 (failed (1 ∷ 2 ∷ 3 ∷ [])) after-123
@@ -123,13 +117,13 @@ pub record Sums : Type 0 where
   pub list_123 : Replays 3 (1 ∷ 3 ∷ 1 ∷ 2 ∷ 3 ∷ []) after-123
   pub list_123_13 : Replays 3 (1 ∷ 3 ∷ 1 ∷ 2 ∷ 3 ∷ 1 ∷ 2 ∷ 1 ∷ 3 ∷ []) after-13
   -- Start 3, end 0: none. Start 3, end 3: 3, 0 litres. Whatever the marks.
-  pub back : (flags : ℕ) → Plans bytes_a flags 3 0 Nothing []
-  pub stay : (flags : ℕ) → Plans bytes_a flags 3 3 (Walk 0 0) (3 ∷ [])
+  pub back : (flags : ℕ) → Plans bytes_a flags 3 0 nothing []
+  pub stay : (flags : ℕ) → Plans bytes_a flags 3 3 (walked 0 0) (3 ∷ [])
   -- 0 to 1, 1 to 3, 0 to 2, 2 to 3, all 100: 0 1 3. With 0 to 3 at 200: 0 3.
-  pub lower_vertex : (flags : ℕ) → Plans bytes_ways flags 0 3 (Walk 200 2) (0 ∷ 1 ∷ 3 ∷ [])
-  pub fewer-hops : (flags : ℕ) → Plans bytes_shortcut flags 0 3 (Walk 200 1) (0 ∷ 3 ∷ [])
+  pub lower_vertex : (flags : ℕ) → Plans bytes_ways flags 0 3 (walked 200 2) (0 ∷ 1 ∷ 3 ∷ [])
+  pub fewer-hops : (flags : ℕ) → Plans bytes_shortcut flags 0 3 (walked 200 1) (0 ∷ 3 ∷ [])
   -- Bytes 01 00 01 40 are read; 01 00 01 41 is 4 at 0; 01 00 01 is 1 at 0.
-  pub count-64 : read_as (reading (0x01 ∷ 0x00 ∷ 0x01 ∷ 0x40 ∷ [])) ≡ Read (record { vertices = 64; arcs = 0; sets = 0; paths = 0 })
+  pub count-64 : read_as (reading (0x01 ∷ 0x00 ∷ 0x01 ∷ 0x40 ∷ [])) ≡ Ok (record { vertices = 64; arcs = 0; sets = 0; paths = 0 })
   pub count-65 : Refuses (0x01 ∷ 0x00 ∷ 0x01 ∷ 0x41 ∷ []) 4 0
   pub no_body : Refuses (0x01 ∷ 0x00 ∷ 0x01 ∷ []) 1 0
 
@@ -159,7 +153,7 @@ planner_a = chosen-planner book_a well-A
 
 -- An accepted report, as an operation and as one of a list.
 pub record Taken (σ : State) (ρ : Report) (τ : State) : Type 0 where
-  pub left : reporting bytes_a σ.rec (path_area σ) σ.area ρ ≡ leaving (Reported.Accepted τ.rec) τ
+  pub left : reporting bytes_a σ.rec (path_area σ) σ.area ρ ≡ leaving (Ok τ.rec) τ
   next : after graph_a plan_a σ ρ ≡ τ
 
 taken : (σ : State) (ρ : Report) (τ : State) → longest ≤ length σ.area → Valid graph_a σ → refusal_by (oracle_tests graph_a σ ρ) ≡ none
@@ -193,7 +187,7 @@ module _ (paths walk : List ℕ) (fits : area_size ≤ length paths) (long : lon
       ap (λ (p : Option (List ℕ)). holding graph_a p σ₀.forbidden 0 3 2 0 (drop area_size paths) walk)
       (plan-best planner_a (is_forbidden_set→ 4 σ₀.forbidden tt) (omega arith) (omega arith) marks_3.best)
 
-  begins : beginning bytes_a 3 0 3 paths walk ≡ leaving (Begun.Record σ₀.rec) σ₀
+  begins : beginning bytes_a 3 0 3 paths walk ≡ leaving (Ok σ₀.rec) σ₀
   begins = ap (λ x. beginning_of x 3 0 3 paths walk) book-A ∙ ap₂ (λ x (σ : State). begun_as x σ paths walk) opens first-is
 
   -- six bytes that were written, and then those that were lent
@@ -249,7 +243,7 @@ module _ (paths walk : List ℕ) (fits : area_size ≤ length paths) (long : lon
   run-13 = ap (λ (σ : State). after graph_a plan_a σ (failed (1 ∷ 3 ∷ []))) run-123 ∙ taken-13.next
 
   pub replays : (reports : List ℕ) (σ : State) → run graph_a plan_a (first_state book_a 3 0 3 paths walk) (reports_of reports) ≡ σ
-      → replaying bytes_a 3 0 3 reports paths walk ≡ leaving (Begun.Record σ.rec) σ
+      → replaying bytes_a 3 0 3 reports paths walk ≡ leaving (Ok σ.rec) σ
   replays reports σ e =
       ap (λ x. replaying_of x 3 0 3 reports paths walk) book-A ∙ ap₂ (λ x (τ : State). begun_as x τ paths walk) opens e
 
@@ -258,21 +252,21 @@ pub sums : Sums
 unfolding all_paths reports_in
 sums =
     record {
-      marks_0 = plans bytes_a book_a book-A 0 0 3 (Walk 300 3) (0 ∷ 1 ∷ 2 ∷ 3 ∷ []) planning.marks_0;
-      marks_1 = plans bytes_a book_a book-A 1 0 3 (Walk 350 2) (0 ∷ 2 ∷ 3 ∷ []) planning.marks_1;
-      marks_2 = plans bytes_a book_a book-A 2 0 3 (Walk 300 3) (0 ∷ 1 ∷ 2 ∷ 3 ∷ []) planning.marks_2;
-      marks_3 = plans bytes_a book_a book-A 3 0 3 (Walk 450 5) (0 ∷ 1 ∷ 2 ∷ 1 ∷ 2 ∷ 3 ∷ []) planning.marks_3;
+      marks_0 = plans bytes_a book_a book-A 0 0 3 (walked 300 3) (0 ∷ 1 ∷ 2 ∷ 3 ∷ []) planning.marks_0;
+      marks_1 = plans bytes_a book_a book-A 1 0 3 (walked 350 2) (0 ∷ 2 ∷ 3 ∷ []) planning.marks_1;
+      marks_2 = plans bytes_a book_a book-A 2 0 3 (walked 300 3) (0 ∷ 1 ∷ 2 ∷ 3 ∷ []) planning.marks_2;
+      marks_3 = plans bytes_a book_a book-A 3 0 3 (walked 450 5) (0 ∷ 1 ∷ 2 ∷ 1 ∷ 2 ∷ 3 ∷ []) planning.marks_3;
       from_marks_3 = begins;
       named-123 = λ paths walk fits long. (taken-123 paths walk fits long).left;
       then-named-13 = λ paths walk fits long. (taken-13 paths walk fits long).left;
       trials-2 = λ paths walk. refl;
       list_123 = λ paths walk fits long. replays paths walk fits long (1 ∷ 3 ∷ 1 ∷ 2 ∷ 3 ∷ []) (after-123 paths walk) (run-123 paths walk fits long);
       list_123_13 = λ paths walk fits long. replays paths walk fits long (1 ∷ 3 ∷ 1 ∷ 2 ∷ 3 ∷ 1 ∷ 2 ∷ 1 ∷ 3 ∷ []) (after-13 paths walk) (run-13 paths walk fits long);
-      back = λ flags. plans bytes_a book_a book-A flags 3 0 Nothing [] (planning.back flags);
-      stay = λ flags. plans bytes_a book_a book-A flags 3 3 (Walk 0 0) (3 ∷ []) (planning.stay flags);
-      lower_vertex = λ flags. plans bytes_ways book_ways book-ways flags 0 3 (Walk 200 2) (0 ∷ 1 ∷ 3 ∷ []) (planning.lower_vertex flags);
-      fewer-hops = λ flags. plans bytes_shortcut book_shortcut book-shortcut flags 0 3 (Walk 200 1) (0 ∷ 3 ∷ []) (planning.fewer-hops flags);
+      back = λ flags. plans bytes_a book_a book-A flags 3 0 nothing [] (planning.back flags);
+      stay = λ flags. plans bytes_a book_a book-A flags 3 3 (walked 0 0) (3 ∷ []) (planning.stay flags);
+      lower_vertex = λ flags. plans bytes_ways book_ways book-ways flags 0 3 (walked 200 2) (0 ∷ 1 ∷ 3 ∷ []) (planning.lower_vertex flags);
+      fewer-hops = λ flags. plans bytes_shortcut book_shortcut book-shortcut flags 0 3 (walked 200 1) (0 ∷ 3 ∷ []) (planning.fewer-hops flags);
       count-64 = ap read_as count-64;
-      count-65 = (Value 0, ap read_as count-65, refl);
-      no_body = (Truncated 0, ap read_as no_body, refl);
+      count-65 = (Value 0, ap read_as count-65, refl, refl);
+      no_body = (Truncated 0, ap read_as no_body, refl, refl);
     }

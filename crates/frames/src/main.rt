@@ -2,43 +2,73 @@
 #![tactic(auto)]
 
 use any_cases::{Call, any_case};
-use cases::{Next, text};
+use cases::each_case;
+use text::LONGEST_INPUT;
 
-// A kind, and as many bytes as 'plan' reads.
-const LONGEST_CASE: usize = 65_537;
+// A kind, and as many bytes as `plan` reads.
+const LONGEST_CASE: usize = 1 + LONGEST_INPUT;
 
-fn main() {
-    let mut space = [0u8; LONGEST_CASE];
-    let buffer: &mut [u8] = &mut space;
-    for _ in 0..65536usize {
-        let next = cases::next_case(buffer);
-        let Next::Case(size) = next else {
-            return;
-        };
-        framed_case(&buffer[..size]);
+// The kinds of cases.
+#[derive(Clone, Copy)]
+enum Kind {
+    Read,
+    Check,
+    Plan,
+    Replay,
+    Any(Call),
+    Board,
+    Table,
+}
+
+// A first byte that says no kind.
+#[derive(Clone, Copy)]
+struct UnknownKind;
+
+impl TryFrom<u8> for Kind {
+    type Error = UnknownKind;
+
+    fn try_from(tag: u8) -> Result<Kind, UnknownKind> {
+        match tag {
+            0 => Ok(Kind::Read),
+            1 => Ok(Kind::Check),
+            2 => Ok(Kind::Plan),
+            3 => Ok(Kind::Replay),
+            4 => Ok(Kind::Any(Call::Bind)),
+            5 => Ok(Kind::Any(Call::Check)),
+            6 => Ok(Kind::Any(Call::Plan)),
+            7 => Ok(Kind::Any(Call::Begin)),
+            8 => Ok(Kind::Any(Call::Passed)),
+            9 => Ok(Kind::Any(Call::Failed)),
+            10 => Ok(Kind::Board),
+            11 => Ok(Kind::Table),
+            _ => Err(UnknownKind),
+        }
     }
 }
 
+fn main(rt: HostRuntime) {
+    let mut buffer = [0; LONGEST_CASE];
+    each_case(
+        &mut rt.stdin(),
+        &mut buffer,
+        |frame| framed_case(&rt, frame),
+    );
+}
+
 // The first byte of a frame says which kind of case the rest is.
-fn framed_case(frame: &[u8]) {
-    if frame.len() == 0 {
-        text(b"NO KIND\n");
+fn framed_case(rt: &impl Print, frame: &[u8]) {
+    let Some((tag, input)) = frame.split_first() else {
+        println!(rt; "NO KIND").unwrap_or(());
         return;
-    }
-    let input = &frame[1..];
-    match frame[0] {
-        0 => kinds::read_case(input),
-        1 => kinds::check_case(input),
-        2 => kinds::plan_case(input),
-        3 => kinds::replay_case(input),
-        4 => any_case(Call::Bind, input),
-        5 => any_case(Call::Check, input),
-        6 => any_case(Call::Plan, input),
-        7 => any_case(Call::Begin, input),
-        8 => any_case(Call::Passed, input),
-        9 => any_case(Call::Failed, input),
-        10 => table_cases::board_case(input),
-        11 => table_cases::table_case(input),
-        _ => text(b"UNKNOWN KIND\n"),
+    };
+    match Kind::try_from(*tag) {
+        Ok(Kind::Read) => kinds::read_case(rt, input),
+        Ok(Kind::Check) => kinds::check_case(rt, input),
+        Ok(Kind::Plan) => kinds::plan_case(rt, input),
+        Ok(Kind::Replay) => kinds::replay_case(rt, input),
+        Ok(Kind::Any(call)) => any_case(rt, call, input),
+        Ok(Kind::Board) => table_cases::board_case(rt, input),
+        Ok(Kind::Table) => table_cases::table_case(rt, input),
+        Err(UnknownKind) => println!(rt; "UNKNOWN KIND").unwrap_or(()),
     }
 }

@@ -2,4 +2,3 @@ pub mod Occurring
 pub mod Weighing
 pub mod Standing
 pub mod Recorded
-pub mod Answering

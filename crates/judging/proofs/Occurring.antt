@@ -1,56 +1,68 @@
--- A path sought in a walk, a place a turn.
-use Prim.Native.Nat.{ℕ, suc, ◌+◌, ◌≤◌, ◌<◌}
-use mathlib.Core.Bool.{Bool, true, false, ◌&&◌, ◌||◌}
-use mathlib.Core.List.{List, [], ◌∷◌}
-use mathlib.Core.Path.{◌≡◌, refl, sym, ap, ap₂, ◌∙◌}
-use native.Mathlib.Numerals.{add-one}
-use native.Mathlib.Omega.{arith}
-use borrow.Author.Tests.{eq-eqb, ne_eqb}
-use lib.Dec.{eqb}
-use lib.ListN.{length, get_or, drop, drop_of_length-le}
-use lib.Seq.{drop-cons}
-use Rattle.lists.specs.Test.{T→true, true→T}
+-- A path sought among the windows of a walk.
+use Rattle.std.proofs.Common.{◌≡◌, ℕ, ◌≤◌, ◌<◌, Bool, true, false, cond, ◌&&◌, ◌||◌, List, [], ◌∷◌, length, take, drop, eqb, leb, refl, sym, ap, ap₂, ◌∙◌, arith, leb-true, true≢false}
+use Rattle.std.proofs.lemmas.Iterator.{YieldsList}
+use Rattle.std.specs.Cmp.Lexicographic.{pointwise}
+use Rattle.std.specs.Iterator.{AlwaysYields}
+use Rattle.std.specs.List.{list_any}
+use Rattle.std.specs.Slice.Iter.{windows_steps, windows_rest, windows_size}
+use Rattle.std.specs.declared.slice.Windows.{Windows}
+use Rattle.std.proofs.lemmas.Bool.{leb-false}
+use Rattle.std.proofs.Math.Bool.{and-false}
 use Rattle.walks.specs.Avoid.{is_prefix, occurs}
-use Rattle.walks.proofs.Avoid.{occurs-front}
 
-and_no : (x : Bool) → x && false ≡ false
-and_no true = refl
-and_no false = refl
+-- the parts of m vertices, at each place in turn
+unfoldable pub windows : ℕ → List ℕ → List (List ℕ)
+windows m [] = []
+windows m (v ∷ w) = cond (leb m (length (v ∷ w))) (take m (v ∷ w) ∷ windows m w) []
 
--- A walk does not begin with a longer path.
-pub prefix-short : (r w : List ℕ) → length w < length r → is_prefix r w ≡ false
-prefix-short [] w h = absurd (omega arith)
-prefix-short (a ∷ r) [] h = refl
-prefix-short (a ∷ r) (b ∷ w) h = ap (λ x. eqb a b && x) (prefix-short r w (omega arith)) ∙ and_no (eqb a b)
+windowed : (m : ℕ) → 0 < m → (w : List ℕ) (s : Windows ℕ) → windows_rest s ≡ w → windows_size s ≡ m → AlwaysYields windows_steps (λ y. y.now) s (windows m w)
+unfolding windows
+windowed m some [] s rest size = λ x t p. absurd (omega (arith, p.1.0, ap length rest, size))
+windowed m some (v ∷ w) s rest size = go (leb m (length (v ∷ w))) refl (windowed m some w)
+  where
+    go : (x : Bool) → leb m (length (v ∷ w)) ≡ x
+        → ((t : Windows ℕ) → windows_rest t ≡ w → windows_size t ≡ m → AlwaysYields windows_steps (λ y. y.now) t (windows m w))
+        → AlwaysYields windows_steps (λ y. y.now) s (cond x (take m (v ∷ w) ∷ windows m w) [])
+    go true fits later = (
+      λ t p. omega (arith, p.1.0, ap length rest, size, leb-true m (length (v ∷ w)) fits),
+      λ x t p. (p.1.1 ∙ ap₂ take size rest, later t (p.1.2 ∙ ap (drop 1) rest) (p.0 ∙ size)),
+    )
+    go false short later = λ x t p. absurd (omega (arith, p.1.0, ap length rest, size, leb-false m (length (v ∷ w)) short))
 
-module _ (path walk : List ℕ) (at i : ℕ) where
-  pub prefix_past : length path ≤ i → is_prefix (drop i path) (drop (at + i) walk) ≡ true
-  prefix_past h = ap (λ r. is_prefix r (drop (at + i) walk)) (drop_of_length-le path h)
+pub YieldsList-from_windows : {s : Windows ℕ} (m : ℕ) (w : List ℕ) → 0 < m → windows_rest s ≡ w → windows_size s ≡ m → YieldsList windows_steps (λ y. y.now) s (windows m w)
+YieldsList-from_windows {s} m w some rest size = record { runs = windowed m some w s rest size }
 
-  module _ (h : i < length path) (k : at + i < length walk) where
-    prefix-split : is_prefix (drop i path) (drop (at + i) walk) ≡ eqb (get_or path i 0) (get_or walk (at + i) 0) && is_prefix (drop (i + 1) path) (drop (at + (i + 1)) walk)
-    prefix-split =
-        let next : suc (at + i) ≡ at + (i + 1) = omega arith in
-        ap₂ is_prefix (drop-cons path i 0 h) (drop-cons walk (at + i) 0 k)
-        ∙ ap₂ (λ m n. eqb (get_or path i 0) (get_or walk (at + i) 0) && is_prefix (drop m path) (drop n walk)) (sym (add-one i)) next
+-- ---- a path is one of the windows of its length exactly if it occurs
+front : (r u : List ℕ) → length r ≤ length u → pointwise eqb r (take (length r) u) ≡ is_prefix r u
+front [] u h = refl
+front (a ∷ r) [] h = absurd (omega arith)
+front (a ∷ r) (b ∷ u) h = ap (λ x. eqb a b && x) (front r u (omega arith))
 
-    pub prefix-differ : (get_or path i 0 ≡ get_or walk (at + i) 0 → ⊥) → is_prefix (drop i path) (drop (at + i) walk) ≡ false
-    prefix-differ ne = prefix-split ∙ ap (λ x. x && is_prefix (drop (i + 1) path) (drop (at + (i + 1)) walk)) (ne_eqb _ _ ne)
+-- no longer path stands at the front, or further on
+longer : (r w : List ℕ) → length w < length r → is_prefix r w ≡ false
+longer [] w h = absurd (omega arith)
+longer (a ∷ r) [] h = refl
+longer (a ∷ r) (b ∷ w) h = ap (λ x. eqb a b && x) (longer r w (omega arith)) ∙ and-false (eqb a b)
 
-    pub prefix-next : get_or path i 0 ≡ get_or walk (at + i) 0 → is_prefix (drop i path) (drop (at + i) walk) ≡ is_prefix (drop (i + 1) path) (drop (at + (i + 1)) walk)
-    prefix-next e = prefix-split ∙ ap (λ x. x && is_prefix (drop (i + 1) path) (drop (at + (i + 1)) walk)) (eq-eqb _ _ e)
+nowhere : (r w : List ℕ) → length w < length r → occurs r w ≡ false
+nowhere r [] h = longer r [] h
+nowhere r (v ∷ w) h = ap₂ (λ x y. x || y) (longer r (v ∷ w) h) (nowhere r w (omega arith))
 
-module _ (path walk : List ℕ) (at : ℕ) where
-  pub occurs-here : is_prefix path (drop at walk) ≡ true → occurs path (drop at walk) ≡ true
-  occurs-here e = T→true (occurs path (drop at walk)) (occurs-front path (drop at walk) (true→T (is_prefix path (drop at walk)) e))
+pub among-windows : (r w : List ℕ) → 0 < length r → list_any (pointwise eqb r) (windows (length r) w) ≡ occurs r w
+unfolding windows
+among-windows r [] some = sym (longer r [] some)
+among-windows r (v ∷ w) some = go (leb (length r) (length (v ∷ w))) refl (among-windows r w some)
+  where
+    go : (x : Bool) → leb (length r) (length (v ∷ w)) ≡ x → list_any (pointwise eqb r) (windows (length r) w) ≡ occurs r w
+        → list_any (pointwise eqb r) (cond x (take (length r) (v ∷ w) ∷ windows (length r) w) []) ≡ occurs r (v ∷ w)
+    go true fits later = ap₂ (λ x y. x || y) (front r (v ∷ w) (leb-true (length r) (length (v ∷ w)) fits)) later
+    go false short later = sym (nowhere r (v ∷ w) (leb-false (length r) (length (v ∷ w)) short))
 
-  pub occurs-later : at < length walk → is_prefix path (drop at walk) ≡ false → occurs path (drop at walk) ≡ occurs path (drop (at + 1) walk)
-  occurs-later h e =
-      ap (occurs path) split
-      ∙ ap (λ x. x || occurs path (drop (at + 1) walk)) (sym (ap (is_prefix path) split) ∙ e)
-    where
-      split : drop at walk ≡ get_or walk at 0 ∷ drop (at + 1) walk
-      split = drop-cons walk at 0 h ∙ ap (λ n. get_or walk at 0 ∷ drop n walk) (sym (add-one at))
+pub empty-occurs : (r w : List ℕ) → length r ≡ 0 → occurs r w ≡ true
+empty-occurs [] [] e = refl
+empty-occurs [] (v ∷ w) e = refl
+empty-occurs (a ∷ r) w e = absurd (omega arith)
 
-  pub occurs-last : length walk ≤ at → occurs path (drop at walk) ≡ is_prefix path (drop at walk)
-  occurs-last h = ap (occurs path) (drop_of_length-le walk h) ∙ sym (ap (is_prefix path) (drop_of_length-le walk h))
+pub some-vertex : (r : List ℕ) → eqb (length r) 0 ≡ false → 0 < length r
+some-vertex [] e = absurd (true≢false e)
+some-vertex (a ∷ r) e = omega arith

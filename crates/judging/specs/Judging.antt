@@ -1,5 +1,5 @@
 -- What a report is refused for in a book that has been read.
-use Rattle.std.specs.Prelude.{ℕ, List, [], ◌∷◌, ◌++◌, eqb, drop}
+use Rattle.std.specs.Prelude.{ℕ, List, [], ◌∷◌, ◌++◌, eqb, drop, Result, Ok, Err}
 use Rattle.std.proofs.Math.Option.{Option, none, some}
 use Rattle.limits.specs.Limits.{area_size}
 use Rattle.book.specs.declared.Refusal.{Refusal}
@@ -8,8 +8,6 @@ use Rattle.book.specs.Book.{Book, graph}
 use Rattle.rules.specs.Area.{spelled, valid}
 use Rattle.trial_record.specs.declared.Record.{Record}
 use Rattle.trial_rules.specs.Trials.{Report, State, area_tests, is_record, said_tests}
-use Rattle.judging.specs.declared.Judged.{Judged}
-use Rattle.judging.specs.declared.Judged.TheVariants.{Standing, Refused}
 
 -- The state that a record and the two areas stand for.
 abbrev pub state_of : Record → List ℕ → List ℕ → State
@@ -25,6 +23,6 @@ abbrev pub report_tests : Record → List ℕ → List ℕ → Report → Book �
 report_tests r paths walk ρ b = judge_tests r paths walk b ++ said_tests (graph b) (state_of r paths walk) ρ
 
 -- What `judge` answers for a refusal, or where there is none.
-abbrev pub judged_as : Option Refusal → Judged
-judged_as none = Standing
-judged_as (some x) = Refused x
+abbrev pub judged_as : Option Refusal → Result Unit Refusal
+judged_as none = Ok tt
+judged_as (some x) = Err x

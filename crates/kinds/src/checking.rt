@@ -1,44 +1,33 @@
 // The case of a check: the flags and the walk's length in two bytes each (high byte first), the walk, and the book.
 use book::Refusal;
-use cases::{number, refusal, text};
 use limits::AREA;
-use lists::{u16_from, wide};
-use rules::Bound;
-use walk_check::Checked;
+use walk_check::Occurrence;
 
-pub fn check_case(input: &[u8]) {
-    let size = input.len();
-    if size < 4 {
-        refusal(Refusal::Truncated(0));
-        return;
-    }
-    let flags = u16_from(input[0], input[1]);
-    let length = wide(input[2]) * 256 + wide(input[3]);
-    if size - 4 < length {
-        refusal(Refusal::Truncated(0));
-        return;
-    }
-    let end = 4 + length;
-    let walk = &input[4..end];
-    let bytes = &input[end..];
-    let mut area = [0u8; AREA];
-    match rules::bind(bytes, flags, &mut area) {
-        Bound::Known(count) => checked(walk_check::check(bytes, &area, count, walk)),
-        Bound::Refused(r) => refusal(r),
-    }
+pub fn check_case(rt: &impl Print, input: &[u8]) {
+    checked(rt, check(input));
+}
+
+fn check(input: &[u8]) -> Result<Option<Occurrence>, Refusal> {
+    let [f1, f0, n1, n0, rest @ ..] = input else {
+        return Err(Refusal::Truncated(0));
+    };
+    let flags = u16::from_be_bytes([*f1, *f0]);
+    let length = u16::from_be_bytes([*n1, *n0]);
+    let Some((walk, bytes)) = rest.split_at_checked(usize::from(length)) else {
+        return Err(Refusal::Truncated(0));
+    };
+    let mut area = [0; AREA];
+    let count = rules::bind(bytes, flags, &mut area)?;
+    walk_check::check(bytes, &area, count, walk)
 }
 
 // Prints the answer of a check.
-pub fn checked(answer: Checked) {
+pub fn checked(rt: &impl Print, answer: Result<Option<Occurrence>, Refusal>) {
     match answer {
-        Checked::Clear => text(b"CLEAR\n"),
-        Checked::Occurs(place, length) => {
-            text(b"RUN AT");
-            number(place);
-            text(b" LENGTH");
-            number(length);
-            text(b"\n");
+        Ok(Some(Occurrence { place, length })) => {
+            println!(rt; "RUN AT {place} LENGTH {length}").unwrap_or(());
         }
-        Checked::Refused(r) => refusal(r),
+        Ok(None) => println!(rt; "CLEAR").unwrap_or(()),
+        Err(refusal) => println!(rt; "{refusal}").unwrap_or(()),
     }
 }

@@ -9,4 +9,4 @@ mod replaying;
 pub use checking::{check_case, checked};
 pub use planning::plan_case;
 pub use reading::read_case;
-pub use replaying::{replay_case, write_fields, write_record};
+pub use replaying::{Fields, replay_case, write_record};

@@ -1,100 +1,64 @@
 // The case of a book: what it means, or its refusal.
-ghost use Rattle.std.specs.Prelude.{◌<◌, ◌≡◌};
-ghost use Rattle.limits.specs.Limits.{most_paths};
+use book::{Counts, Loaded};
+use limits::{ENTRY, MOST_VERTICES, NO_ARC};
+use std::fmt;
 
-use book::{Answer, Counts};
-use cases::{number, refusal, text};
-use limits::{AREA, ENTRY, LONGEST_PATH, MOST_PATHS, MOST_SETS, MOST_VERTICES, NO_ARC, PAIRS};
-use lists::wide;
-
-fn wide16(x: u16) -> usize
-    ensures { result ≡ x }
-{
-    x as usize
+pub fn read_case(rt: &impl Print, bytes: &[u8]) {
+    match book::load(bytes) {
+        Ok(book) => write_book(rt, &book),
+        Err(refusal) => println!(rt; "{refusal}").unwrap_or(()),
+    }
 }
 
-fn wide32(x: u32) -> usize
-    ensures { result ≡ x }
-{
-    x as usize
-}
-
-fn write_counts(c: Counts) {
-    text(b"GRADES");
-    number(c.vertices);
-    text(b" CHANGEOVERS");
-    number(c.arcs);
-    text(b" SHEETS");
-    number(c.sets);
-    text(b" RUNS");
-    number(c.paths);
-    text(b"\n");
+fn write_book(rt: &impl Print, book: &Loaded) {
+    let Counts {
+        vertices,
+        arcs,
+        sets,
+        paths,
+    } = book.counts;
+    println!(rt; "GRADES {vertices} CHANGEOVERS {arcs} SHEETS {sets} RUNS {paths}").unwrap_or(());
+    write_arcs(rt, book);
+    for (set, flags) in book.flags.iter().take(sets).enumerate() {
+        println!(rt; "SHEET {flags}").unwrap_or(());
+        write_paths_of(rt, set, book);
+    }
 }
 
 // In rising order of tail, then head.
-fn write_arcs(weights: &[u32; PAIRS]) {
-    for pair in 0..PAIRS {
-        let weight = weights[pair];
-        if weight != NO_ARC {
-            text(b"ARC");
-            number(pair / MOST_VERTICES);
-            number(pair % MOST_VERTICES);
-            number(wide32(weight));
-            text(b"\n");
+fn write_arcs(rt: &impl Print, book: &Loaded) {
+    for (pair, weight) in book.weights.iter().enumerate() {
+        if *weight != NO_ARC {
+            println!(rt;
+                "ARC {} {} {weight}",
+                pair / MOST_VERTICES,
+                pair % MOST_VERTICES
+            )
+            .unwrap_or(());
         }
     }
 }
 
-fn write_path(entries: &[u8; AREA], j: usize)
-    requires { j < most_paths }
-{
-    text(b"RUN");
-    let n = wide(entries[j * ENTRY]);
-    for k in 0..LONGEST_PATH {
-        if k < n {
-            number(wide(entries[j * ENTRY + 1 + k]));
+fn write_paths_of(rt: &impl Print, set: usize, book: &Loaded) {
+    let entries = book.entries.chunks_exact(ENTRY).take(book.counts.paths);
+    for (owner, entry) in book.owners.iter().zip(entries) {
+        if usize::from(*owner) == set {
+            println!(rt; "RUN{}", Path(entry)).unwrap_or(());
         }
     }
-    text(b"\n");
 }
 
-fn write_paths_of(set: usize, count: usize, owners: &[u8; MOST_PATHS], entries: &[u8; AREA]) {
-    for j in 0..MOST_PATHS {
-        if j < count {
-            if wide(owners[j]) == set {
-                write_path(entries, j);
+// The path of an entry: its vertices, a blank before each.
+#[derive(Clone, Copy)]
+struct Path<'a>(&'a [u8]);
+
+impl fmt::Display for Path<'_> {
+    fn fmt<W: fmt::Write>(&self, f: &mut fmt::Formatter<W>) -> fmt::Result {
+        if let Some((n, vertices)) = self.0.split_first() {
+            for vertex in vertices.iter().take(usize::from(*n)) {
+                write!(f, " {vertex}")?;
             }
         }
-    }
-}
-
-fn write_sets(
-    c: Counts,
-    flags: &[u16; MOST_SETS],
-    owners: &[u8; MOST_PATHS],
-    entries: &[u8; AREA],
-) {
-    for set in 0..16usize {
-        if set < c.sets {
-            text(b"SHEET");
-            number(wide16(flags[set]));
-            text(b"\n");
-            write_paths_of(set, c.paths, owners, entries);
-        }
-    }
-}
-
-pub fn read_case(bytes: &[u8]) {
-    let mut weights = [NO_ARC; PAIRS];
-    let mut flags = [0u16; MOST_SETS];
-    let mut owners = [0u8; MOST_PATHS];
-    let mut entries = [0u8; AREA];
-    match book::load(bytes, &mut weights, &mut flags, &mut owners, &mut entries) {
-        Answer::Read(counts) => {
-            write_counts(counts);
-            write_arcs(&weights);
-            write_sets(counts, &flags, &owners, &entries);
-        }
-        Answer::Refused(r) => refusal(r),
+        Ok(())
     }
 }

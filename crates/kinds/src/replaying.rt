@@ -6,76 +6,91 @@ ghost use Rattle.series.specs.Reports.{reports_of};
 ghost use Rattle.series.specs.Whole.{reports_on};
 
 use book::Refusal;
-use cases::{long, number, refusal, same_answer, text, write_walk};
+use cases::{Walk, same_answer};
 use limits::{AREA, LONGEST};
-use lists::{u16_from, wide};
-use series::Made;
+use std::fmt;
 use trial_record::Record;
-use trials::{Begun, Reported};
+use trials::Rejected;
 
-// Prints what begin and each report leave.
-pub fn replay_case(input: &[u8]) {
-    let size = input.len();
-    if size < 8 {
-        refusal(Refusal::Truncated(0));
-        return;
-    }
-    let flags = u16_from(input[0], input[1]);
-    let length = long(input[4], input[5], input[6], input[7]);
-    if size - 8 < length {
-        refusal(Refusal::Truncated(0));
-        return;
-    }
-    let end = 8 + length;
-    replay(&input[8..end], flags, input[2], input[3], &input[end..]);
-}
-
-// Makes the reports one by one, and then the whole list anew: both are to leave the same.
-fn replay(bytes: &[u8], flags: u16, start: u8, end: u8, reports: &[u8]) {
-    let mut paths = [0u8; AREA];
-    let mut walk = [0u8; LONGEST];
-    let mut paths_anew = [0u8; AREA];
-    let mut walk_anew = [0u8; LONGEST];
-    let stepped = step(bytes, flags, start, end, reports, &mut paths, &mut walk);
-    let whole = series::replay(
-        bytes,
-        flags,
-        start,
-        end,
-        reports,
-        &mut paths_anew,
-        &mut walk_anew,
-    );
-    let same = same_answer(stepped, whole);
-    compare(same, &paths, &paths_anew, &walk, &walk_anew);
-}
-
-// Begins, makes each report, and prints what each leaves.
-fn step(
-    bytes: &[u8],
+// A batch with its book, and the reports of its trials.
+#[derive(Clone, Copy)]
+struct Batch<'a> {
     flags: u16,
     start: u8,
     end: u8,
-    reports: &[u8],
-    paths: &mut [u8],
-    walk: &mut [u8],
-) -> Begun
-    ensures { answering result paths.new walk.new ≡ replaying bytes.now flags start end reports.now paths.old walk.old }
+    bytes: &'a [u8],
+    reports: &'a [u8],
+}
+
+// Prints what begin and each report leave.
+pub fn replay_case(rt: &impl Print, input: &[u8]) {
+    match batch_of(input) {
+        Some(batch) => replay(rt, batch),
+        None => println!(rt; "{}", Refusal::Truncated(0)).unwrap_or(()),
+    }
+}
+
+fn batch_of(input: &[u8]) -> Option<Batch<'_>> {
+    let [f1, f0, start, end, n3, n2, n1, n0, rest @ ..] = input else {
+        return None;
+    };
+    let length = u32::from_be_bytes([*n3, *n2, *n1, *n0]);
+    let (bytes, reports) = rest.split_at_checked(length as usize)?;
+    Some(Batch {
+        flags: u16::from_be_bytes([*f1, *f0]),
+        start: *start,
+        end: *end,
+        bytes,
+        reports,
+    })
+}
+
+// Makes the reports one by one, and then the whole list anew: both are to leave the same. A line more where an answer or a byte differs.
+fn replay(rt: &impl Print, batch: Batch) {
+    let mut paths = [0; AREA];
+    let mut walk = [0; LONGEST];
+    let stepped = step(rt, batch, &mut paths, &mut walk);
+    let mut paths_anew = [0; AREA];
+    let mut walk_anew = [0; LONGEST];
+    let whole = series::replay(
+        batch.bytes,
+        batch.flags,
+        batch.start,
+        batch.end,
+        batch.reports,
+        &mut paths_anew,
+        &mut walk_anew,
+    );
+    if !same_answer(stepped, whole) || paths != paths_anew || walk != walk_anew {
+        println!(rt; "DIFFERENT").unwrap_or(());
+    }
+}
+
+// Begins, makes each report, and prints what each leaves.
+fn step(rt: &impl Print, batch: Batch, paths: &mut [u8], walk: &mut [u8]) -> Result<Record, Refusal>
+    ensures { answering result paths.new walk.new ≡ replaying batch.entry.bytes.now batch.entry.flags batch.entry.start batch.entry.end batch.entry.reports.now paths.old walk.old }
 {
-    let begun = trials::begin(bytes, flags, start, end, paths, walk);
-    match begun {
-        Begun::Refused(r) => {
-            refusal(r);
-            begun
+    match trials::begin(
+        batch.bytes,
+        batch.flags,
+        batch.start,
+        batch.end,
+        paths,
+        walk,
+    ) {
+        Ok(first) => {
+            write_record(rt, first, walk);
+            Ok(make_all(rt, batch.bytes, first, batch.reports, paths, walk))
         }
-        Begun::Record(first) => {
-            write_record(first, walk);
-            Begun::Record(make_all(bytes, first, reports, paths, walk))
+        Err(refusal) => {
+            println!(rt; "{refusal}").unwrap_or(());
+            Err(refusal)
         }
     }
 }
 
 fn make_all(
+    rt: &impl Print,
     bytes: &[u8],
     first: Record,
     reports: &[u8],
@@ -86,61 +101,50 @@ fn make_all(
 {
     let mut rec = first;
     let mut at = 0;
-    while at < reports.len() {
-        let made = series::make(bytes, rec, reports, at, paths, walk);
-        let Made::Report(reported, next) = made else {
-            return rec;
-        };
-        print_reported(reported, walk);
-        rec = series::record_of(reported);
-        at = next;
+    while let Some(made) = series::make(bytes, rec, reports, at, paths, walk) {
+        write_reported(rt, made.reported, walk);
+        rec = series::record_of(made.reported);
+        at = made.end;
     }
     rec
 }
 
 // Prints what a report leaves.
-fn print_reported(reported: Reported, walk: &[u8]) {
+fn write_reported(rt: &impl Print, reported: Result<Record, Rejected>, walk: &[u8]) {
     match reported {
-        Reported::Accepted(rec) => write_record(rec, walk),
-        Reported::Refused(r, _) => refusal(r),
+        Ok(rec) => write_record(rt, rec, walk),
+        Err(rejected) => println!(rt; "{}", rejected.refusal).unwrap_or(()),
     }
 }
 
 // The line of a record, and in stages 0 and 1 that of its walk.
-pub fn write_record(rec: Record, walk: &[u8]) {
-    write_fields(rec);
+pub fn write_record(rt: &impl Print, rec: Record, walk: &[u8]) {
+    println!(rt; "{}", Fields(rec)).unwrap_or(());
     if rec.stage != 2 {
-        let length = rec.length;
-        write_walk(walk, length);
+        let length = walk.len().min(rec.length);
+        println!(rt; "{}", Walk(&walk[..length])).unwrap_or(());
     }
 }
 
-// The line of a record, whatever it says.
-pub fn write_fields(rec: Record) {
-    text(b"STAGE");
-    number(rec.stage);
-    text(b" START");
-    number(wide(rec.start));
-    text(b" END");
-    number(wide(rec.end));
-    text(b" KNOWN");
-    number(rec.known);
-    text(b" AT-START");
-    number(rec.first);
-    text(b" FAILED");
-    number(rec.failed);
-    text(b" PASSED");
-    number(rec.passed);
-    text(b" LITRES ");
-    io::print_decimal(limits::STDOUT, rec.litres);
-    text(b" LENGTH");
-    number(rec.length);
-    text(b"\n");
-}
+// The fields of a record, whatever it says.
+#[derive(Clone, Copy)]
+pub struct Fields(pub Record);
 
-// A line more where two answers or a byte of their areas differ.
-fn compare(same: bool, paths: &[u8], paths_anew: &[u8], walk: &[u8], walk_anew: &[u8]) {
-    if !same || !check::same(paths, paths_anew) || !check::same(walk, walk_anew) {
-        text(b"DIFFERENT\n");
+impl fmt::Display for Fields {
+    fn fmt<W: fmt::Write>(&self, f: &mut fmt::Formatter<W>) -> fmt::Result {
+        let rec = self.0;
+        write!(
+            f,
+            "STAGE {} START {} END {} KNOWN {} AT-START {} FAILED {} PASSED {} LITRES {} LENGTH {}",
+            rec.stage,
+            rec.start,
+            rec.end,
+            rec.known,
+            rec.first,
+            rec.failed,
+            rec.passed,
+            rec.litres,
+            rec.length,
+        )
     }
 }

@@ -23,10 +23,5 @@ pub const AREA: usize = 2304;
 // The vertices of the longest walk, and the bytes of its area.
 pub const LONGEST: usize = 1600;
 
-// A pair of vertices that is no arc, in a table of weights.
+// A pair of vertices that is no arc, in a table of weights: a number, since a table of Options would take twice the memory.
 pub const NO_ARC: u32 = 0xffff_ffff;
-
-// The standard streams, as the library `io` numbers them.
-pub const STDIN: i32 = 0;
-
-pub const STDOUT: i32 = 1;

@@ -12,7 +12,7 @@ use Rattle.book.specs.Refusal.{test_at, first_failure}
 use Rattle.book.specs.Book.{Book, WellFormed, given, proper_arc}
 use Rattle.book.proofs.BookLaws.{arc-well_formed}
 use Rattle.book.specs.Reading.{and_then, outcome, add_arc}
-use Rattle.listed.specs.declared.Arc.{Arc as Item}
+use Rattle.book.specs.declared.Arc.{Arc as Item}
 use Rattle.listed.specs.Listing.{arc_of, items, listing}
 use Rattle.listed.specs.StandingLaws.{empty}
 use Rattle.listed.proofs.StandingLaws.{empty-well_formed}

@@ -11,10 +11,9 @@ use Rattle.book.specs.Book.{Book, All, IsArc, PairsOnce, given, graph}
 use Rattle.book.proofs.BookLaws.{reading-is-book, arc-passes, not-before}
 use Rattle.book.specs.Reading.{accepted, and_then, outcome, reading, add_arc, with_arc}
 use Rattle.rules.specs.Area.{spelled}
-use Rattle.planner.specs.declared.Outcome.{Outcome}
-use Rattle.planner.specs.Planning.{plan_tests, Planned, PlanningOf, Planning}
+use Rattle.planner.specs.Planning.{plan_tests, Answer, Planned, PlanningOf, Planning}
 use Rattle.planner.proofs.RuleSets.{planned-same}
-use Rattle.listed.specs.declared.Arc.{Arc as Item}
+use Rattle.book.specs.declared.Arc.{Arc as Item}
 use Rattle.listed.specs.Listing.{arc_of, items, listing}
 use Rattle.listed.specs.Reordered.{all_reordered, pairs_reordered, graph_reordered}
 use Rattle.listed.specs.SameBook.{arcs_of, more}
@@ -45,7 +44,7 @@ listed-book s b read xs same =
 
 -- Planning from a list is planning from a book of the same count and arcs, whatever their order and whatever its rule sets.
 pub from-book : (s : List ℕ) (b : Book) → reading s ≡ accepted b → (n : ℕ) (xs : List Item) → n ≡ b.count → Permᴰ b.arcs (arcs_of xs)
-    → (paths : List ℕ) (count start end : ℕ) (old : List ℕ) (r : Outcome) (new : List ℕ)
+    → (paths : List ℕ) (count start end : ℕ) (old : List ℕ) (r : Answer) (new : List ℕ)
     → PlanningOf (listing n xs) paths count start end old r new → Planning s paths count start end old r new
 from-book s b read n xs n-is same paths count start end old r new p =
     let q : PlanningOf (accepted (record { count = b.count; arcs = arcs_of xs; sets = [] })) paths count start end old r new =
@@ -56,10 +55,10 @@ from-book s b read n xs n-is same paths count start end old r new p =
 
 -- Under the same runs area the two have equal answers and equal bytes.
 pub same-plan : (s : List ℕ) (b : Book) → reading s ≡ accepted b → (n : ℕ) (xs : List Item) → n ≡ b.count → Permᴰ b.arcs (arcs_of xs)
-    → (paths : List ℕ) (count start end : ℕ) (old : List ℕ) (r r' : Outcome) (new new' : List ℕ)
+    → (paths : List ℕ) (count start end : ℕ) (old : List ℕ) (r r' : Answer) (new new' : List ℕ)
     → PlanningOf (listing n xs) paths count start end old r new → Planning s paths count start end old r' new' → (r ≡ r') × (new ≡ new')
 same-plan s b read n xs n-is same paths count start end old r r' new new' p p' =
-    let in-book : (r : Outcome) (new : List ℕ) → Planning s paths count start end old r new → PlanningOf (accepted b) paths count start end old r new =
+    let in-book : (r : Answer) (new : List ℕ) → Planning s paths count start end old r new → PlanningOf (accepted b) paths count start end old r new =
     λ r new q. subst (λ x. PlanningOf x paths count start end old r new) read q in
     planned-same (refusal_by (plan_tests paths count start end old b)) (graph b) (spelled count paths) (spelled count paths) (λ _ _ a. a) (λ _ _ a. a) start end old r r' new new'
     (in-book r new (from-book s b read n xs n-is same paths count start end old r new p)) (in-book r' new' p')

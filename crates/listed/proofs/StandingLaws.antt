@@ -1,7 +1,7 @@
 -- The laws of what specs/StandingLaws.antt defines.
-use Rattle.std.specs.Prelude.{ℕ, suc, ◌+◌, ◌≤◌, ◌<◌, ◌≡◌, refl, Bool, true, false, cond, not, ◌&&◌, List, [], ◌∷◌, leb, length, get_or, drop, replicate}
-use Rattle.std.proofs.Common.{sym, ap, ap₂, subst, ◌∙◌, add-suc, add-zero, arith, leb-true, le-leb, ltb-true, ltb-false, drop_of_length-le, drop-cons}
-use Rattle.std.proofs.lemmas.Bool.{false≢true, lt-leb}
+use Rattle.std.specs.Prelude.{ℕ, suc, ◌+◌, ◌≤◌, ◌<◌, ◌≡◌, refl, Bool, true, false, cond, not, ◌&&◌, List, [], leb, length, get_or, drop, replicate, Result, Ok, Err}
+use Rattle.std.proofs.Common.{sym, ap, ap₂, subst, ◌∙◌, add-one, arith, leb-true, le-leb, drop_of_length-le, drop-cons}
+use Rattle.std.proofs.lemmas.Bool.{lt-leb}
 use Rattle.std.proofs.Math.Option.{none, some}
 use Rattle.lists.specs.Test.{and-true}
 use Rattle.walks.specs.Graph.{Arc}
@@ -12,17 +12,11 @@ use Rattle.book.proofs.BookLaws.{arc-well_formed}
 use Rattle.book.specs.Reading.{Reading, accepted, refused, and_then, outcome, verdict_of, add_arc, with_arc, kept}
 use Rattle.book.specs.Tables.{IsGraph, Enters, entered, weight_table}
 use Rattle.limits.specs.Limits.{pairs, no_arc, most_vertices}
-use Rattle.planner.specs.declared.Outcome.{Outcome}
-use Rattle.planner.specs.Planning.{PlanningOf}
-use Rattle.listed.specs.declared.Arc.{Arc as Item}
-use Rattle.book.specs.declared.Verdict.{Verdict}
-use Rattle.book.specs.declared.Verdict.TheVariants.{Good, Refused}
+use Rattle.book.specs.declared.Arc.{Arc as Item}
+use Rattle.planner.specs.Planning.{Answer, PlanningOf}
 use Rattle.listed.specs.Listing.{arc_of, counted, items, listing}
-use Rattle.listed.specs.Standing.{is_going_on, Table, Stands}
-use Rattle.listed.specs.StandingLaws.{empty, counted-by, Going}
-
-not-refused : (x : Refusal) → Good ≡ Refused x → ⊥
-not-refused x e = let z : ◌≡◌ {A = ℕ} 0 1 = cc in omega arith
+use Rattle.listed.specs.Standing.{Table, Stands}
+use Rattle.listed.specs.StandingLaws.{empty, Going}
 
 pub empty-well_formed : (n : ℕ) → 1 ≤ n → n ≤ most_vertices → WellFormed (empty n)
 unfolding all_paths
@@ -42,19 +36,22 @@ counted-table n t blank = go (leb 1 n && leb n most_vertices) refl
         record { well = empty-well_formed n (leb-true _ _ limits.0) (leb-true _ _ limits.1); vertices_are = refl; weights_are = blank ∙ sym no_arcs }
     go false e = tt
 
-pub no_vertex : (n : ℕ) → n < 1 → Refused (Value 0) ≡ verdict_of (counted n)
-no_vertex n low = ap (λ x. counted-by n (x && leb n most_vertices)) (sym (lt-leb 1 n low))
+-- A count that a book can have, or 4 at 0.
+counted-by : (n : ℕ) → (x : Bool) → leb 1 n && leb n most_vertices ≡ x → verdict_of (counted n) ≡ verdict_of (outcome (cond x none (some (Value 0))) (empty n))
+counted-by n x e = ap (λ y. verdict_of (outcome (cond y none (some (Value 0))) (empty n))) e
 
-pub many_vertices : (n : ℕ) → 1 ≤ n → most_vertices < n → Refused (Value 0) ≡ verdict_of (counted n)
-many_vertices n low high = ap₂ (λ x y. counted-by n (x && y)) (sym (le-leb 1 n low)) (sym (lt-leb n most_vertices high))
+pub no_vertex : (n : ℕ) → n < 1 → Err (Value 0) ≡ verdict_of (counted n)
+no_vertex n low = sym (counted-by n false (ap (λ x. x && leb n most_vertices) (lt-leb 1 n low)))
 
-pub few-vertices : (n : ℕ) → 1 ≤ n → n ≤ most_vertices → Good ≡ verdict_of (counted n)
-few-vertices n low high = ap₂ (λ x y. counted-by n (x && y)) (sym (le-leb 1 n low)) (sym (le-leb n most_vertices high))
+pub many_vertices : (n : ℕ) → 1 ≤ n → most_vertices < n → Err (Value 0) ≡ verdict_of (counted n)
+many_vertices n low high = sym (counted-by n false (ap₂ (λ x y. x && y) (le-leb 1 n low) (lt-leb n most_vertices high)))
+
+pub few-vertices : (n : ℕ) → 1 ≤ n → n ≤ most_vertices → Ok tt ≡ verdict_of (counted n)
+few-vertices n low high = sym (counted-by n true (ap₂ (λ x y. x && y) (le-leb 1 n low) (le-leb n most_vertices high)))
 
 -- ---- one item
-pub item_stands : (n : ℕ) (b : Book) (t : List ℕ) → IsGraph b n t → (i : ℕ) (a x : Arc) → x ≡ a → (v : Verdict) (t' : List ℕ) → Enters b i x v t' → Stands n (with_arc b i a) v t'
-item_stands n b t h i a x is v t' enters-x =
-    let enters : Enters b i a v t' = subst (λ y. Enters b i y v t') is enters-x in
+pub item_stands : (n : ℕ) (b : Book) (t : List ℕ) → IsGraph b n t → (i : ℕ) (a : Arc) (v : Result (Unit {0}) Refusal) (t' : List ℕ) → Enters b i a v t' → Stands n (with_arc b i a) v t'
+item_stands n b t h i a v t' enters =
     record { verdict-is = enters.0; table = go (proper_arc b.count a) (given b.arcs a.tail a.head) refl refl enters.1 }
   where
     go : (x y : Bool) → proper_arc b.count a ≡ x → given b.arcs a.tail a.head ≡ y
@@ -65,74 +62,65 @@ item_stands n b t h i a x is v t' enters-x =
     go true false p q e = record { well = arc-well_formed a b h.well p q; vertices_are = h.vertices_are; weights_are = e }
 
 -- ---- the list
-pub goes_on : (v : Verdict) (i n : ℕ) → is_going_on v i n ≡ true → i < n
-goes_on Good i n e = ltb-true i n e
-goes_on (Refused x) i n e = absurd (false≢true e)
+-- a refusal ends it
+pub ends_there : (n : ℕ) (x : Reading) (next : Book → Reading) (r : Refusal) (t : List ℕ) → Err r ≡ verdict_of x → Stands n (and_then x next) (Err r) t
+ends_there n (accepted b) next r t e = cc
+ends_there n (refused q) next r t e = record { verdict-is = e; table = tt }
 
-pub going_first : (n : ℕ) (xs : List Item) (v : Verdict) (t : List ℕ) → v ≡ verdict_of (counted n) → t ≡ replicate pairs no_arc → Going n xs 0 v t
-going_first n xs v t is blank =
-    record { so_far = counted n; stands = record { verdict-is = is; table = counted-table n t blank }; rest-is = refl }
+-- a good verdict goes on with a book
+pub good_book : (n : ℕ) (x : Reading) (t : List ℕ) → Stands n x (Ok tt) t → (b : Book) × (x ≡ accepted b) × IsGraph b n t
+good_book n (accepted b) t s = (b, refl, s.table)
+good_book n (refused q) t s = let e = s.verdict-is in cc
+
+-- while items are entered, those so far are a book's
+pub going_book : (n : ℕ) (xs : List Item) (i : ℕ) (t : List ℕ) → Going n xs i t → (b : Book) × IsGraph b n t
+going_book n xs i t g = (g.so_far, g.table)
+
+pub going_first : (n : ℕ) (xs : List Item) (t : List ℕ) → Ok tt ≡ verdict_of (counted n) → t ≡ replicate pairs no_arc → Going n xs 0 t
+going_first n xs t is blank =
+    let (b, read, table) = good_book n (counted n) t (record { verdict-is = is; table = counted-table n t blank }) in
+    record { so_far = b; table = table; rest-is = ap (λ x. and_then x (items 0 xs)) (sym read) }
 
 -- an item is entered, and then those after it
-then-items : (x : Reading) (i : ℕ) (a : Item) (xs : List Item)
-    → and_then (and_then x (λ b. with_arc b i (arc_of a))) (items (suc i) xs) ≡ and_then x (items i (a ∷ xs))
+next-item : (xs : List Item) (i : ℕ) (d : Item) (b : Book) → i < length xs
+    → items i (drop i xs) b ≡ and_then (with_arc b i (arc_of (get_or xs i d))) (items (suc i) (drop (suc i) xs))
 unfolding items
-then-items (accepted b) i a xs = refl
-then-items (refused x) i a xs = refl
+next-item xs i d b h = ap (λ l. items i l b) (drop-cons xs i d h)
 
--- while items are to be entered, those so far are a book's
-pub going_book : (n : ℕ) (xs : List Item) (i : ℕ) (v : Verdict) (t : List ℕ) (m : ℕ) → is_going_on v i m ≡ true → Going n xs i v t → (b : Book) × IsGraph b n t
-going_book n xs i v t m on g = go g.so_far v on g.stands
-  where
-    go : (x : Reading) (v : Verdict) → is_going_on v i m ≡ true → Stands n x v t → (b : Book) × IsGraph b n t
-    go (accepted b) v e s = (b, s.table)
-    go (refused x) Good e s = absurd (not-refused x s.verdict-is)
-    go (refused x) (Refused y) e s = absurd (false≢true e)
+module _ (n : ℕ) (xs : List Item) (i : ℕ) (d : Item) (h : i < length xs) (t : List ℕ) (g : Going n xs i t) where
+  pub going_on : (t' : List ℕ) → Stands n (with_arc g.so_far i (arc_of (get_or xs i d))) (Ok tt) t' → Going n xs (i + 1) t'
+  going_on t' s =
+      let (b, read, table) = good_book n (with_arc g.so_far i (arc_of (get_or xs i d))) t' s in
+      subst (λ k. Going n xs k t') (sym (add-one i))
+      (record {
+        so_far = b;
+        table = table;
+        rest-is = ap (λ x. and_then x (items (suc i) (drop (suc i) xs))) (sym read) ∙ sym (next-item xs i d g.so_far h) ∙ g.rest-is;
+      })
 
-pub going_on : (n : ℕ) (xs : List Item) (i : ℕ) (d : Item) (v v' : Verdict) (t t' : List ℕ) → is_going_on v i (length xs) ≡ true
-    → ((b : Book) → IsGraph b n t → Stands n (with_arc b i (arc_of (get_or xs i d))) v' t') → Going n xs i v t → Going n xs (i + 1) v' t'
-going_on n xs i d v v' t t' on judges g =
-    subst (λ k. Going n xs k v' t') (sym (add-suc i 0 ∙ ap suc (add-zero i)))
-    (record {
-      so_far = and_then g.so_far (λ b. with_arc b i (arc_of (get_or xs i d)));
-      stands = go g.so_far v on g.stands;
-      rest-is = then-items g.so_far i (get_or xs i d) (drop (suc i) xs) ∙ ap (λ l. and_then g.so_far (items i l)) (sym (drop-cons xs i d (goes_on v i (length xs) on))) ∙ g.rest-is;
-    })
-  where
-    go : (x : Reading) (v : Verdict) → is_going_on v i (length xs) ≡ true → Stands n x v t → Stands n (and_then x (λ b. with_arc b i (arc_of (get_or xs i d)))) v' t'
-    go (accepted b) v e s = judges b s.table
-    go (refused x) Good e s = absurd (not-refused x s.verdict-is)
-    go (refused x) (Refused y) e s = absurd (false≢true e)
+  pub going_off : (r : Refusal) (t' : List ℕ) → Stands n (with_arc g.so_far i (arc_of (get_or xs i d))) (Err r) t' → Stands n (listing n xs) (Err r) t'
+  going_off r t' s =
+      subst (λ x. Stands n x (Err r) t') (sym (next-item xs i d g.so_far h) ∙ g.rest-is)
+      (ends_there n (with_arc g.so_far i (arc_of (get_or xs i d))) (items (suc i) (drop (suc i) xs)) r t' s.verdict-is)
 
-no_items : (x : Reading) (i : ℕ) → and_then x (items i []) ≡ x
+no_items : (i : ℕ) (b : Book) → items i [] b ≡ accepted b
 unfolding items
-no_items (accepted b) i = refl
-no_items (refused x) i = refl
+no_items i b = refl
 
--- the items are left at the end of the list, or once one is refused
-pub going_last : (n : ℕ) (xs : List Item) (i : ℕ) (v : Verdict) (t : List ℕ) → is_going_on v i (length xs) ≡ false → Going n xs i v t → Stands n (listing n xs) v t
-going_last n xs i v t left g = subst (λ x. Stands n x v t) (all_read g.so_far v g.stands.verdict-is left ∙ g.rest-is) g.stands
-  where
-    all_read : (x : Reading) (v : Verdict) → v ≡ verdict_of x → is_going_on v i (length xs) ≡ false → x ≡ and_then x (items i (drop i xs))
-    all_read (accepted b) Good is e =
-        sym (no_items (accepted b) i) ∙ ap (λ l. items i l b) (sym (drop_of_length-le xs {i = i} (ltb-false i (length xs) e)))
-    all_read (accepted b) (Refused y) is e = absurd (not-refused y (sym is))
-    all_read (refused x) v is e = refl
+pub going_last : (n : ℕ) (xs : List Item) (i : ℕ) (t : List ℕ) → length xs ≤ i → Going n xs i t → Stands n (listing n xs) (Ok tt) t
+going_last n xs i t left g =
+    subst (λ x. Stands n x (Ok tt) t) (sym (no_items i g.so_far) ∙ ap (λ l. items i l g.so_far) (sym (drop_of_length-le xs {i = i} left)) ∙ g.rest-is)
+    (record { verdict-is = refl; table = g.table })
 
 -- ---- planning takes a good verdict's book, and hands a refusal on
-pub good_book : (n : ℕ) (x : Reading) (v : Verdict) (t : List ℕ) → v ≡ Good → Stands n x v t
-    → (b : Book) × IsGraph b n t
-good_book n (accepted b) v t good s = (b, s.table)
-good_book n (refused x) v t good s = absurd (not-refused x (sym good ∙ s.verdict-is))
-
 module _ (paths : List ℕ) (count start end : ℕ) (old : List ℕ) where
-  pub plans-book : (n : ℕ) (x : Reading) (v : Verdict) (t : List ℕ) (r : Outcome) (new : List ℕ) → v ≡ Good
+  pub plans-book : (n : ℕ) (x : Reading) (t : List ℕ) (r : Answer) (new : List ℕ)
       → ((b : Book) → IsGraph b n t → PlanningOf (accepted b) paths count start end old r new)
-      → Stands n x v t → PlanningOf x paths count start end old r new
-  plans-book n (accepted b) v t r new good plans s = plans b s.table
-  plans-book n (refused x) v t r new good plans s = absurd (not-refused x (sym good ∙ s.verdict-is))
+      → Stands n x (Ok tt) t → PlanningOf x paths count start end old r new
+  plans-book n x t r new plans s =
+      let (b, read, table) = good_book n x t s in
+      subst (λ y. PlanningOf y paths count start end old r new) (sym read) (plans b table)
 
-  pub plans-none : (n : ℕ) (x : Reading) (v : Verdict) (t : List ℕ) (y : Refusal) → v ≡ Refused y
-      → Stands n x v t → PlanningOf x paths count start end old (Outcome.Refused y) old
-  plans-none n (accepted b) v t y bad s = absurd (not-refused y (sym s.verdict-is ∙ bad))
-  plans-none n (refused x) v t y bad s = let both : Refused y ≡ Refused x = sym bad ∙ s.verdict-is in let same : y ≡ x = cc in (ap Outcome.Refused same, refl)
+  pub plans-none : (n : ℕ) (x : Reading) (t : List ℕ) (y : Refusal) → Stands n x (Err y) t → PlanningOf x paths count start end old (Err y) old
+  plans-none n (accepted b) t y s = let e = s.verdict-is in cc
+  plans-none n (refused x) t y s = let e = s.verdict-is in let same : x ≡ y = cc in (ap Err (sym same), refl)

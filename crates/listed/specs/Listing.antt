@@ -2,15 +2,12 @@
 -- without rule sets. A refusal carries the item's index, from 0.
 use Rattle.std.specs.Prelude.{ℕ, suc, ◌&&◌, List, [], ◌∷◌, leb}
 use Rattle.limits.specs.Limits.{most_vertices}
-use Rattle.walks.specs.Graph.{Arc}
 use Rattle.book.specs.Refusal.{Test, test_at, first_failure}
 use Rattle.book.specs.Book.{Book}
+use Rattle.book.specs.declared.Arc.{Arc as Item}
 use Rattle.book.specs.Reading.{Reading, accepted, and_then, outcome, with_arc}
-use Rattle.listed.specs.declared.Arc.{Arc as Item}
-
 -- the arc of an item
-abbrev pub arc_of : Item → Arc
-arc_of a = record { tail = a.tail; head = a.head; weight = a.weight }
+pub use Rattle.book.specs.Reading.{arc_of}
 
 -- 4: the count of vertices is within its limits; this comes before any item
 abbrev pub counting : ℕ → List Test

@@ -2,7 +2,7 @@
 use mathlib.Core.List.{List, ◌++◌, map}
 use Rattle.walks.specs.Graph.{Arc}
 use Rattle.book.specs.Book.{Book}
-use Rattle.listed.specs.declared.Arc.{Arc as Item}
+use Rattle.book.specs.declared.Arc.{Arc as Item}
 use Rattle.listed.specs.Listing.{arc_of}
 
 -- the arcs of a list

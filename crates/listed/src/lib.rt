@@ -3,95 +3,52 @@
 
 ghost use Rattle.std.specs.Prelude.{◌≡◌, replicate};
 ghost use Rattle.book.specs.Book.{Book};
-ghost use Rattle.book.specs.Reading.{Reading, verdict_of, with_arc};
+ghost use Rattle.book.specs.Reading.{verdict_of, with_arc, arc_of};
 ghost use Rattle.book.specs.Tables.{IsGraph};
 ghost use Rattle.limits.specs.Limits.{no_arc, pairs};
 ghost use Rattle.planner.specs.Planning.{PlanningOf};
-ghost use Rattle.listed.specs.Listing.{arc_of, counted as Listing-counted, listing};
-ghost use Rattle.listed.specs.Standing.{Stands, is_going_on};
-
-use book::{Refusal, Verdict};
-use limits::{MOST_VERTICES, NO_ARC, PAIRS};
-use lists::wide;
-use planner::Outcome;
+ghost use Rattle.listed.specs.Listing.{counted as Listing-counted, listing};
+ghost use Rattle.listed.specs.Standing.{Stands};
 
 // An item of the list (01: a changeover, with its litres).
-#[derive(Clone, Copy)]
-pub struct Arc {
-    pub tail: u8,
-    pub head: u8,
-    pub weight: u32,
-}
+pub use book::Arc;
+use book::Refusal;
+use limits::{MOST_VERTICES, NO_ARC, PAIRS};
+use routes::Plan;
+use walks::{ArcTable, PathArea};
 
 // The count of vertices, before any item.
-fn counted(vertices: usize) -> Verdict
+fn counted(vertices: usize) -> Result<(), Refusal>
     ensures { result ≡ verdict_of (Listing-counted vertices) }
 {
-    if vertices < 1 {
-        return Verdict::Refused(Refusal::Value(0));
+    if vertices < 1 || MOST_VERTICES < vertices {
+        return Err(Refusal::Value(0));
     }
-    if MOST_VERTICES < vertices {
-        return Verdict::Refused(Refusal::Value(0));
-    }
-    Verdict::Good
+    Ok(())
 }
 
-// Enters the item at index i into the table of weights of the items before it.
-fn enter(vertices: usize, i: usize, arc: Arc, weights: &mut [u32; PAIRS]) -> Verdict
+// Enters the item at index i into the table of weights of the items before it, which it writes, and an `ArcTable` only lends.
+fn enter(vertices: usize, i: usize, arc: Arc, weights: &mut [u32; PAIRS]) -> Result<(), Refusal>
     requires { (b : Book) × IsGraph b vertices weights.old }
     ensures { (b : Book) → IsGraph b vertices weights.old → Stands vertices (with_arc b i (arc_of arc)) result weights.new }
 {
-    let tail = wide(arc.tail);
-    let head = wide(arc.head);
-    book::enter_arc(vertices, i, tail, head, arc.weight as usize, weights)
+    book::enter_arc(vertices, i, arc, weights)
 }
 
-// Whether item i of n is still to be entered.
-fn more(verdict: Verdict, i: usize, n: usize) -> bool
-    ensures { result ≡ is_going_on verdict i n }
-{
-    match verdict {
-        Verdict::Good => i < n,
-        Verdict::Refused(_) => false,
-    }
-}
-
-// Copies the items out one by one, and enters each into a blank table, up to the first bad one.
-fn load(vertices: usize, arcs: &[Arc], weights: &mut [u32; PAIRS]) -> Verdict
-    requires { weights.old ≡ replicate pairs no_arc }
+// Enters the items into a blank table one by one, up to the first bad one; it writes the table too.
+fn load(vertices: usize, arcs: &[Arc], weights: &mut [u32; PAIRS]) -> Result<(), Refusal>
+    requires blank { weights.old ≡ replicate pairs no_arc }
     ensures { Stands vertices (listing vertices arcs.now) result weights.new }
 {
-    let mut verdict = counted(vertices);
-    let mut i = 0;
-    while more(verdict, i, arcs.len()) {
-        verdict = enter(vertices, i, arcs[i], weights);
-        i += 1;
+    counted(vertices)?;
+    for (i, arc) in arcs.iter().enumerate() {
+        enter(vertices, i, *arc, weights)?;
     }
-    verdict
-}
-
-// Plans in the book that the list stands for.
-fn plan_loaded(
-    verdict: Verdict,
-    vertices: usize,
-    weights: &[u32; PAIRS],
-    paths: &[u8],
-    count: usize,
-    start: u8,
-    end: u8,
-    walk: &mut [u8],
-) -> Outcome
-    requires { (x : Reading) × Stands vertices x verdict weights.now }
-    ensures { (x : Reading) → Stands vertices x verdict weights.now → PlanningOf x paths.now count start end walk.old result walk.new }
-{
-    match verdict {
-        Verdict::Refused(r) => Outcome::Refused(r),
-        Verdict::Good => planner::plan_in(weights, vertices, paths, count, start, end, walk),
-    }
+    Ok(())
 }
 
 // Writes the best walk from start to end in the graph of that many vertices and those arcs into the front of the area `walk`, and
-// answers its weight and hops.
+// answers its weight and hops, or that there is none. The runs area and its count stand apart: this outward form is set.
 pub fn plan_arcs(
     vertices: usize,
     arcs: &[Arc],
@@ -100,10 +57,18 @@ pub fn plan_arcs(
     start: u8,
     end: u8,
     walk: &mut [u8],
-) -> Outcome
+) -> Result<Option<Plan>, Refusal>
     ensures { PlanningOf (listing vertices arcs.now) paths.now count start end walk.old result walk.new }
 {
     let mut weights = [NO_ARC; PAIRS];
-    let verdict = load(vertices, arcs, &mut weights);
-    plan_loaded(verdict, vertices, &weights, paths, count, start, end, walk)
+    load(vertices, arcs, &mut weights)?;
+    let arcs = ArcTable {
+        vertices,
+        weights: &weights,
+    };
+    let paths = PathArea {
+        bytes: paths,
+        count,
+    };
+    planner::plan_in(arcs, paths, start, end, walk)
 }

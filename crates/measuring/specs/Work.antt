@@ -1,10 +1,11 @@
 -- The work tables of the whole search, and what building the automaton and the distances ask of them.
 use Rattle.std.specs.Prelude.{Bool, List, ◌++◌, ◌≡◌, ℕ, ◌*◌, ◌<◌, ◌≤◌, length, take, drop, replicate}
 use Rattle.std.proofs.Math.Logic.{by_cases}
-use Rattle.std.proofs.Common.{sym, ap, ◌∙◌, arith, length-take-le, take_at}
+use Rattle.std.proofs.Common.{◌∙◌, arith, length-take-le, take_at}
 use Rattle.std.proofs.Math.Decide.{dec_lt}
 use Rattle.std.proofs.lemmas.List.{length-replicate, get_or-replicate}
 use Rattle.std.proofs.Math.ListN.{get_or-eq_default}
+use Rattle.std.proofs.Math.Seq.{length_front}
 use Rattle.limits.specs.Limits.{most_vertices}
 use Rattle.walks.specs.Graph.{Graph}
 use Rattle.walks.specs.Weights.{Weights}
@@ -61,6 +62,9 @@ module _ {paths : List ℕ} {count vertices m : ℕ} {F : List (List ℕ)} {step
 
     -- The front after the distances x have come back to it.
     module _ (x : List ℕ) (same : length x ≡ length (take m table)) where
+      pub back-length : length (x ++ drop m table) ≡ length table
+      back-length = length_front table x m same
+
       back-front : take m (x ++ drop m table) ≡ x
       back-front = take_at x (drop m table) m (same ∙ front_length)
 

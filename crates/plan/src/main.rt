@@ -1,12 +1,13 @@
 // Plans the case on standard input: marks in two bytes (high byte first), start, end, and a book.
 #![tactic(auto)]
 
-use limits::{STDIN, STDOUT};
+use arrayvec::ArrayVec;
+use std::io;
+use std::io::{Read, Write};
+use text::LONGEST_INPUT;
 
-fn main() {
-    let mut input = io::large_buffer();
-    let n = io::read_full(STDIN, &mut input);
-    let mut out = [0u8; text::LONGEST_TEXT];
-    let size = answer::answer(&input[..n], &mut out);
-    io::write_all(STDOUT, &out[..size]);
+fn main(rt: HostRuntime) {
+    let mut input = ArrayVec::<u8, LONGEST_INPUT>::new();
+    io::copy(&mut rt.stdin().take(LONGEST_INPUT as u64), &mut input).ok();
+    rt.stdout().write_all(&answer::answer(&input)).unwrap_or(());
 }

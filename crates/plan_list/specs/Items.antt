@@ -1,7 +1,7 @@
 -- The items of a list in bytes: six bytes an item.
 use Rattle.std.specs.Prelude.{ℕ, zero, suc, ◌/◌, cond, List, [], ◌∷◌, ltb, length, get_or, drop}
 use Rattle.book.specs.Reading.{u32_at}
-use Rattle.listed.specs.declared.Arc.{Arc as Item}
+use Rattle.book.specs.declared.Arc.{Arc as Item}
 
 -- tail, head, and the weight in four bytes, high byte first
 abbrev pub item_of : List ℕ → Item

@@ -3,7 +3,7 @@ use Rattle.std.specs.Prelude.{ℕ, zero, suc, ◌+◌, ◌*◌, ◌/◌, ◌≤�
 use Rattle.std.proofs.Common.{le_refl, le_of_lt, add-one, arith, sym, ap, ◌∙◌, ltb-true, ltb-false, drop-drop, take-suc-set}
 use Rattle.book.specs.Book.{Book, WellFormed}
 use Rattle.book_bytes.proofs.BookSize.{few-arcs}
-use Rattle.listed.specs.declared.Arc.{Arc as Item}
+use Rattle.book.specs.declared.Arc.{Arc as Item}
 use Rattle.listed.specs.Listing.{listing}
 use Rattle.listed.proofs.LongList.{first-items}
 use Rattle.plan_list.specs.Items.{item_of, first_items, items_of, most_items, items_in}

@@ -1,5 +1,5 @@
 -- The laws of what specs/RuleSets.antt defines.
-use Rattle.std.specs.Prelude.{ℕ, ◌≡◌, refl, leb, ltb, length, drop}
+use Rattle.std.specs.Prelude.{ℕ, ◌≡◌, refl, leb, ltb, length, drop, Some, None, Ok, Err}
 use Rattle.std.proofs.Common.{sym, ap, ap₂, subst, ◌∙◌, le-leb}
 use mathlib.Core.List.{List, [], ◌∷◌, ◌++◌}
 use Rattle.std.proofs.Math.Option.{Option, none, some}
@@ -17,26 +17,24 @@ use Rattle.rules.specs.Binding.{known}
 use Rattle.rules.specs.Operations.{Binding, binding, area_after}
 use Rattle.rules.specs.Laws.{Filled}
 use Rattle.rules.proofs.Laws.{bind-accepted}
-use Rattle.planner.specs.declared.Outcome.{Outcome}
-use Rattle.planner.specs.declared.Outcome.TheVariants.{Walk, Nothing, Refused}
-use Rattle.planner.specs.Planning.{plan_tests, Planned, PlanningOf, Planning}
+use Rattle.planner.specs.Planning.{plan_tests, Answer, Planned, PlanningOf, Planning}
 use Rattle.planner.specs.RuleSets.{SameWalks}
 
 -- Plans under two lists of forbidden paths that leave the same walks are equal; with one list, this says that there is one plan.
-pub planned-same : (x : Option Refusal) (g : Graph) (F G : List (List ℕ)) → NoStricter g F G → NoStricter g G F → (s t : ℕ) (old : List ℕ) (r r' : Outcome) (new new' : List ℕ)
+pub planned-same : (x : Option Refusal) (g : Graph) (F G : List (List ℕ)) → NoStricter g F G → NoStricter g G F → (s t : ℕ) (old : List ℕ) (r r' : Answer) (new new' : List ℕ)
     → Planned x g F s t old r new → Planned x g G s t old r' new' → (r ≡ r') × (new ≡ new')
 planned-same (some x) g F G to from s t old r r' new new' p p' = (p.0 ∙ sym p'.0, p.1 ∙ sym p'.1)
-planned-same none g F G to from s t old (Walk w h) (Walk w' h') new new' p p' =
+planned-same none g F G to from s t old (Ok (Some q)) (Ok (Some q')) new new' p p' =
     let same = Best-unique (Best-same to from p.best) p'.best in (
-      ap₂ Walk (p.weight_is ∙ ap (weight_of g) same ∙ sym p'.weight_is) (p.hops-is ∙ ap hops same ∙ sym p'.hops-is),
+      ap₂ (λ w h. Ok (Some (record { weight = w; hops = h }))) (p.weight_is ∙ ap (weight_of g) same ∙ sym p'.weight_is) (p.hops-is ∙ ap hops same ∙ sym p'.hops-is),
       p.area-is ∙ ap (λ w. w ++ drop (length w) old) same ∙ sym p'.area-is,
     )
-planned-same none g F G to from s t old (Walk w h) Nothing new new' p p' = absurd (Best-not-None (Best-same to from p.best) p'.0)
-planned-same none g F G to from s t old Nothing (Walk w h) new new' p p' = absurd (Best-not-None (Best-same from to p'.best) p.0)
-planned-same none g F G to from s t old Nothing Nothing new new' p p' = (refl, p.1 ∙ sym p'.1)
-planned-same none g F G to from s t old (Refused x) r' new new' p p' = absurd p
-planned-same none g F G to from s t old (Walk w h) (Refused x) new new' p p' = absurd p'
-planned-same none g F G to from s t old Nothing (Refused x) new new' p p' = absurd p'
+planned-same none g F G to from s t old (Ok (Some q)) (Ok None) new new' p p' = absurd (Best-not-None (Best-same to from p.best) p'.0)
+planned-same none g F G to from s t old (Ok None) (Ok (Some q')) new new' p p' = absurd (Best-not-None (Best-same from to p'.best) p.0)
+planned-same none g F G to from s t old (Ok None) (Ok None) new new' p p' = (refl, p.1 ∙ sym p'.1)
+planned-same none g F G to from s t old (Err x) r' new new' p p' = absurd p
+planned-same none g F G to from s t old (Ok (Some q)) (Err x) new new' p p' = absurd p'
+planned-same none g F G to from s t old (Ok None) (Err x) new new' p p' = absurd p'
 
 -- planning after binding is planning under the known paths: 9 is never refused then, nor 8 for the runs area
 module _ (flags start end : ℕ) (old : List ℕ) where
@@ -44,10 +42,10 @@ module _ (flags start end : ℕ) (old : List ℕ) where
   abbrev pub left_tests : ℕ → List Test
   left_tests n = test 8 (leb longest (length old)) ∷ test 7 (ltb start n) ∷ test 7 (ltb end n) ∷ []
 
-  abbrev pub PlannedIn : ℕ → List Arc → List (List ℕ) → Outcome → List ℕ → Type 0
+  abbrev pub PlannedIn : ℕ → List Arc → List (List ℕ) → Answer → List ℕ → Type 0
   PlannedIn n arcs F r new = Planned (refusal_by (left_tests n)) (from_arcs n arcs) F start end old r new
 
-  module _ (s area : List ℕ) (F : List (List ℕ)) (f : Filled s flags area F) (r : Outcome) (new : List ℕ) where
+  module _ (s area : List ℕ) (F : List (List ℕ)) (f : Filled s flags area F) (r : Answer) (new : List ℕ) where
     abbrev pub after : List ℕ
     after = area_after (binding s flags area) area
 
@@ -64,7 +62,7 @@ module _ (flags start end : ℕ) (old : List ℕ) where
   -- Books that are read, bound and planned from: equal answers and equal bytes.
   pub equal-plans : (s s' : List ℕ) (b c : Book) → reading s ≡ accepted b → reading s' ≡ accepted c → SameWalks b c
       → (area area' : List ℕ) (F G : List (List ℕ)) → binding s flags area ≡ Binding.bound F → binding s' flags area' ≡ Binding.bound G
-      → (r r' : Outcome) (new new' : List ℕ)
+      → (r r' : Answer) (new new' : List ℕ)
       → Planning s (area_after (binding s flags area) area) (length F) start end old r new
       → Planning s' (area_after (binding s' flags area') area') (length G) start end old r' new'
       → (r ≡ r') × (new ≡ new')

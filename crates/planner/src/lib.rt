@@ -10,19 +10,13 @@ ghost use Rattle.limits.specs.Limits.{longest};
 ghost use Rattle.routes.specs.Plan.{Searched};
 ghost use Rattle.planner.specs.Planning.{Planning, PlanningOf};
 
-use book::{Answer, Refusal};
-use limits::{AREA, LONGEST, MOST_PATHS, MOST_SETS, NO_ARC, PAIRS};
-use routes::Found;
+use book::Refusal;
+use limits::{AREA, LONGEST};
+use routes::Plan;
 use walks::{ArcTable, PathArea};
 
-#[derive(Clone, Copy)]
-pub enum Outcome {
-    Walk { weight: u64, hops: usize },
-    Nothing,
-    Refused(Refusal),
-}
-
-// Writes the best walk from start to end into the front of the area `walk`, and answers its weight and hops.
+// Writes the best walk from start to end into the front of the area `walk`, and answers its weight and hops, or that there is none.
+// The runs area and its count stand apart: this outward form is set.
 pub fn plan(
     bytes: &[u8],
     paths: &[u8],
@@ -30,77 +24,52 @@ pub fn plan(
     start: u8,
     end: u8,
     walk: &mut [u8],
-) -> Outcome
+) -> Result<Option<Plan>, Refusal>
     ensures { Planning bytes.now paths.now count start end walk.old result walk.new }
 {
-    let mut weights = [NO_ARC; PAIRS];
-    let mut flags = [0u16; MOST_SETS];
-    let mut owners = [0u8; MOST_PATHS];
-    let mut entries = [0u8; AREA];
-    let read = book::load(bytes, &mut weights, &mut flags, &mut owners, &mut entries);
-    match read {
-        Answer::Refused(r) => Outcome::Refused(r),
-        Answer::Read(counts) => plan_in(&weights, counts.vertices, paths, count, start, end, walk),
-    }
+    let book = book::load(bytes)?;
+    let paths = PathArea {
+        bytes: paths,
+        count,
+    };
+    plan_in(book.arcs(), paths, start, end, walk)
 }
 
 // The same in a book that has been read.
 pub fn plan_in(
-    weights: &[u32; PAIRS],
-    vertices: usize,
-    paths: &[u8],
-    count: usize,
+    arcs: ArcTable,
+    paths: PathArea,
     start: u8,
     end: u8,
     walk: &mut [u8],
-) -> Outcome
-    requires { (b : Book) × IsGraph b vertices weights.now }
-    ensures { (b : Book) → IsGraph b vertices weights.now → PlanningOf (accepted b) paths.now count start end walk.old result walk.new }
+) -> Result<Option<Plan>, Refusal>
+    requires { (b : Book) × IsGraph b arcs.vertices arcs.weights.now }
+    ensures { (b : Book) → IsGraph b arcs.entry.vertices arcs.entry.weights.now → PlanningOf (accepted b) paths.entry.bytes.now paths.entry.count start end walk.old result walk.new }
 {
-    if paths.len() < AREA {
-        return Outcome::Refused(Refusal::Area);
+    if paths.bytes.len() < AREA {
+        return Err(Refusal::Area);
     }
     if walk.len() < LONGEST {
-        return Outcome::Refused(Refusal::Area);
+        return Err(Refusal::Area);
     }
-    if vertices <= start as usize {
-        return Outcome::Refused(Refusal::Endpoint);
+    if arcs.vertices <= usize::from(start) {
+        return Err(Refusal::Endpoint);
     }
-    if vertices <= end as usize {
-        return Outcome::Refused(Refusal::Endpoint);
+    if arcs.vertices <= usize::from(end) {
+        return Err(Refusal::Endpoint);
     }
-    if !rules::valid(paths, count, vertices) {
-        return Outcome::Refused(Refusal::Invalid);
+    if !rules::valid(paths, arcs.vertices) {
+        return Err(Refusal::Invalid);
     }
-    match find(weights, vertices, paths, count, start, end, walk) {
-        Found::Walk { weight, hops } => Outcome::Walk { weight, hops },
-        Found::Nothing => Outcome::Nothing,
-    }
+    Ok(find(arcs, paths, start, end, walk))
 }
 
 // The same where nothing is to be refused: the best walk, or that there is none.
-pub fn find(
-    weights: &[u32; PAIRS],
-    vertices: usize,
-    paths: &[u8],
-    count: usize,
-    start: u8,
-    end: u8,
-    walk: &mut [u8],
-) -> Found
-    requires graph { (b : Book) × IsGraph b vertices weights.now }
-    requires count_value { valid vertices paths.now count ≡ true }
-    requires start_lt_vertices { (start < vertices) × (longest ≤ length walk.old) }
-    ensures { (b : Book) → IsGraph b vertices weights.now → Searched (graph b) (spelled count paths.now) start end walk.old result walk.new }
+pub fn find(arcs: ArcTable, paths: PathArea, start: u8, end: u8, walk: &mut [u8]) -> Option<Plan>
+    requires graph { (b : Book) × IsGraph b arcs.vertices arcs.weights.now }
+    requires valid_paths { valid arcs.vertices paths.bytes.now paths.count ≡ true }
+    requires start_and_room { (start < arcs.vertices) × (longest ≤ length walk.old) }
+    ensures { (b : Book) → IsGraph b arcs.entry.vertices arcs.entry.weights.now → Searched (graph b) (spelled paths.entry.count paths.entry.bytes.now) start end walk.old result walk.new }
 {
-    search::best_walk(
-        ArcTable { vertices, weights },
-        PathArea {
-            bytes: paths,
-            count,
-        },
-        start as usize,
-        end,
-        walk,
-    )
+    search::best_walk(arcs, paths, usize::from(start), end, walk)
 }

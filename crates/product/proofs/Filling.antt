@@ -1,4 +1,4 @@
--- What `edges_from` has done when it is at vertex v, and what one turn of its loop does.
+-- What `edges_from` has done when it is at vertex v and `edges` when it is at state q, and what one turn of a loop does.
 use mathlib.Core.Bool.{Bool, true, false, not, cond, ◌&&◌}
 use mathlib.Core.List.{List, [], ◌∷◌, ◌++◌, append-nil, append_assoc}
 use mathlib.Core.Path.{◌≡◌, refl, sym, ap, ◌∙◌}
@@ -8,13 +8,13 @@ use native.Mathlib.Numerals.{add-one}
 use native.Mathlib.Omega.{arith}
 use lib.Dec.{eqb}
 use lib.ListN.{length, get_or, set, take, length-set}
-use lib.Seq.{take-suc-set}
 use Rattle.std.proofs.lemmas.List.{map-append}
 use Rattle.distances.specs.Edge.{Edge}
 use Rattle.distances.specs.Reverse.{swap}
 use Rattle.limits.specs.Limits.{no_arc}
 use Rattle.product.specs.Product.{arc_at, is_open, edge_over, edges_from, state_edges}
 use Rattle.product.specs.Base.{directed}
+use Rattle.product.specs.Columns.{columns-more}
 
 -- The bits that are left after v halvings have the bit of v at their lowest place.
 pub next-half : (x v : ℕ) → x / 2 ^ v / 2 ≡ x / 2 ^ (v + 1)
@@ -62,7 +62,7 @@ module _ (weights steps blockeds latests : List ℕ) (towards : Bool) where
         left_is = ap (λ x. x / 2) f.left_is ∙ next-half (get_or blockeds q 0) v;
         few = omega (arith, f.few);
         same_length = length-set es k e ∙ f.same_length;
-        appended = rw (add-one v, o, directed-append, directed_one, ← is, ← append_assoc, ← f.appended) (rw add-one (take-suc-set es k e room));
+        appended = rw (add-one v, o, directed-append, directed_one, ← is, ← append_assoc) (columns-more es e room f.appended);
       }
 
       pub filling_shut : is_open weights steps blockeds latests q v ≡ false → Filling es (left / 2) k (v + 1)

@@ -16,12 +16,12 @@ use Rattle.distances.proofs.Reverse.{within-swapped}
 use Rattle.distances.specs.Table.{at, inf}
 use Rattle.distances.specs.Pack.{Targets}
 
--- Distances to a vertex, or from it.
+-- Whether the distances are those to a vertex.
 abbrev pub is_towards : Goal → Bool
 is_towards (To v) = true
 is_towards (From v) = false
 
--- The vertex.
+-- The vertex that they are to, or from.
 abbrev pub vertex_of : Goal → ℕ
 vertex_of (To v) = v
 vertex_of (From v) = v

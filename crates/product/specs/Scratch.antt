@@ -1,14 +1,15 @@
 -- The work tables of the search for distances.
 use Rattle.std.specs.Prelude.{Bool, true, List, ◌≡◌, ℕ, zero, suc, ◌*◌, ◌^◌, ◌<◌, ◌≤◌, length, take}
-use Rattle.std.proofs.Common.{⊎_elim, sym, ◌∙◌, arith, length-take-le, get_or-take}
+use Rattle.std.proofs.Common.{⊎_elim, sym, ap, ap₂, ◌∙◌, arith, length-take-le, get_or-take}
 use Rattle.std.proofs.Math.Logic.{by_cases}
 use Rattle.std.proofs.Math.Decide.{dec_lt}
 use Rattle.std.proofs.Math.ListN.{get_or-eq_default}
 use Rattle.limits.specs.Limits.{most_vertices}
 use Rattle.distances.specs.Edge.{Edge, Within, edge_at}
-use Rattle.distances.specs.Table.{at, inf}
+use Rattle.distances.specs.Table.{at, inf, passes}
 use Rattle.distances.specs.Ready.{Ready}
 use Rattle.distances.proofs.Ready.{ready_joins}
+use Rattle.distances.specs.Chain.{Linked}
 use Rattle.states.specs.Count.{most_states}
 use Rattle.product.specs.Product.{state_edges, edges-over}
 use Rattle.product.specs.Base.{base, directed, length-base, base-is, within-directed}
@@ -55,6 +56,17 @@ module _ {es : List Edge} {latests first next seen table : List ℕ} (s : Scratc
 
   pub scratch_head : (i : ℕ) → i < length es → (edge_at es i).head < length first
   scratch_head i h = omega (arith, ready_joins (scratch_ready true 0) i h, length-base true latests 0 (length table), s.first-length)
+
+  -- What `settle` asks once the base table is written and the edges chained, and what it ends in.
+  module _ (towards : Bool) (v : ℕ) {table' : List ℕ} (written : table' ≡ base towards latests v (length table)) where
+    pub scratch_settle : {first' next' : List ℕ} → length first' ≡ length first → Linked es first' next'
+        → Ready es table' × Linked es first' next' × (length first' ≡ length table') × (length seen ≡ length table') × ((q : ℕ) → q < length seen → at seen q ≡ inf)
+    scratch_settle kept linked =
+        let size : length table' ≡ length table = ap length written ∙ length-base towards latests v (length table) in
+        (rw written (scratch_ready towards v), linked, kept ∙ s.first-length ∙ sym size, s.seen_length ∙ sym size, s.seen_blank)
+
+    pub scratch_passes : passes es (length table') table' ≡ passes es (length table) (base towards latests v (length table))
+    scratch_passes = ap₂ (passes es) (ap length written ∙ length-base towards latests v (length table)) written
 
 -- A list of as many edges has as much room.
 pub room-kept : {m : ℕ} {es es' : List Edge} {first next seen : List ℕ} → EdgeRoom m es first next seen → length es' ≡ length es → EdgeRoom m es' first next seen

@@ -18,6 +18,6 @@ module _ (p : Product) where
   abbrev pub RowOf : ℕ → Type 0
   RowOf q = Row p.arcs.vertices p.arcs.weights.now p.steps.now p.blocked.now p.latest.now q
 
-  -- There is one for each of m states.
+  -- There is one for each of m states, and steps lead to these.
   abbrev pub FitsOf : ℕ → Type 0
   FitsOf m = Fits p.arcs.vertices m p.arcs.weights.now p.steps.now p.blocked.now p.latest.now

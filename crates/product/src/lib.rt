@@ -10,12 +10,13 @@ ghost use Rattle.product.specs.Base.{is_towards, vertex_of, base, directed};
 ghost use Rattle.product.specs.View.{edges_of, state_edges_of, RowOf, FitsOf};
 ghost use Rattle.product.specs.Scratch.{Scratch, EdgeRoom};
 
+use automaton::Automaton;
 use distances::{Chained, Edge, HOPS, INF, link, settle};
 use limits::{MOST_VERTICES, NO_ARC};
 use walks::ArcTable;
 
 // A graph's arcs and the automaton's tables. State q steps over v to steps[q * 64 + v], has the blocked vertices as the bits of
-// blocked[q], and stands at latest[q].
+// blocked[q], and stands at latest[q]. Tables and no struct a state, since they are the automaton's.
 #[derive(Clone, Copy)]
 pub struct Product<'a> {
     pub arcs: ArcTable<'a>,
@@ -61,6 +62,27 @@ pub fn is_open(weight: u32, bits: u64) -> bool
     weight != NO_ARC && bits % 2 == 0
 }
 
+impl<'a> Product<'a> {
+    // The product of a graph and an automaton.
+    pub fn of<const S: usize, const T: usize>(
+        arcs: ArcTable<'a>,
+        automaton: &'a Automaton<S, T>,
+    ) -> Product<'a>
+        ensures vertices { result.arcs.vertices ≡ arcs.entry.vertices }
+        ensures weights { result.arcs.weights.now ≡ arcs.entry.weights.now }
+        ensures steps { result.steps.now ≡ automaton.now.steps }
+        ensures blocked { result.blocked.now ≡ automaton.now.blocked }
+        ensures latest { result.latest.now ≡ automaton.now.latest }
+    {
+        Product {
+            arcs,
+            steps: &automaton.steps,
+            blocked: &automaton.blocked,
+            latest: &automaton.latest,
+        }
+    }
+}
+
 impl Product<'_> {
     // Appends the edges from state q over the graph's vertices, in order and directed, to the first `filled` edges. Answers how many
     // there are then.
@@ -89,7 +111,8 @@ impl Product<'_> {
         k
     }
 
-    // Writes the edges from the states below m over the graph's vertices, in order and directed. Answers how many there are.
+    // Writes the edges from the states below m over the graph's vertices, in order and directed. Answers how many there are, which also is how much
+    // of the chains' table is used.
     fn edges(self, goal: Goal, m: usize, edges: &mut [Edge]) -> usize
         requires rows { FitsOf self m }
         requires room { m * most_vertices ≤ length edges.old }
@@ -115,6 +138,7 @@ impl Product<'_> {
     }
 
     // The distances over given edges. The tables `first` and `next` are for the chains of edges, and `seen` for the entries seen.
+    // Five tables and no struct: each is cut to its own size, states or edges, from work tables of fixed sizes.
     fn distances_over(
         self,
         goal: Goal,
@@ -132,7 +156,7 @@ impl Product<'_> {
         settle(Chained { edges, first, next }, table, seen);
     }
 
-    // The distances of the states to a vertex, or from it: what the passes over the product's edges end in.
+    // The distances of the states to a vertex, or from it: what the passes over the product's edges end in. Five tables, as above.
     pub fn distances(
         self,
         goal: Goal,

@@ -1,2 +1,2 @@
--- Meaning: Numbers (a record and its numbers as bytes).
+-- Meaning: Numbers (a record, its numbers, and an area, as bytes).
 pub mod Numbers

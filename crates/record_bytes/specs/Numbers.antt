@@ -1,5 +1,6 @@
--- Numbers and a record from bytes, high byte first.
-use Rattle.std.specs.Prelude.{ℕ, ◌+◌, ◌*◌, List, get_or}
+-- Numbers, a record and an area from bytes, high byte first.
+use Rattle.std.specs.Prelude.{ℕ, ◌+◌, ◌*◌, ◌-◌, List, ◌++◌, length, get_or}
+use Rattle.std.proofs.Math.ListN.{replicate}
 use Rattle.trial_record.specs.declared.Record.{Record}
 
 abbrev pub word_at : List ℕ → ℕ → ℕ
@@ -24,3 +25,7 @@ record_at s =
       litres = eight_at s 42;
       length = eight_at s 50;
     }
+
+-- An area of n bytes: those that are given, and one value behind them.
+abbrev pub area_of : ℕ → List ℕ → ℕ → List ℕ
+area_of n given more = given ++ replicate (n - length given) more

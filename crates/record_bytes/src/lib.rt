@@ -1,11 +1,13 @@
-// Numbers and a record from bytes, high byte first: what a test program's case begins with.
+// Numbers, a record and an area from bytes, high byte first: what a test program's case begins with.
 #![tactic(auto)]
 
 ghost use Rattle.std.specs.Prelude.{◌≡◌, length, ◌+◌, ◌≤◌, ◌<◌};
-ghost use Rattle.record_bytes.specs.Numbers.{word_at, four_at, eight_at, record_at};
+ghost use Rattle.record_bytes.specs.Numbers.{word_at, four_at, eight_at, record_at, area_of};
 
-use lists::u16_from;
 use trial_record::Record;
+
+// As many bytes as an area of a case may have.
+pub const MOST_AREA: usize = 4_096;
 
 // Two bytes as a number.
 pub fn word(s: &[u8], at: usize) -> usize
@@ -13,7 +15,7 @@ pub fn word(s: &[u8], at: usize) -> usize
     ensures value { result ≡ word_at s.now at }
     ensures upper_bound { result < 65536 }
 {
-    u16_from(s[at], s[at + 1]) as usize
+    usize::from(u16::from_be_bytes([s[at], s[at + 1]]))
 }
 
 // Four bytes.
@@ -21,7 +23,7 @@ pub fn four(s: &[u8], at: usize) -> u32
     requires { at + 4 ≤ length s.now }
     ensures { result ≡ four_at s.now at }
 {
-    (word(s, at) * 65_536 + word(s, at + 2)) as u32
+    u32::from_be_bytes([s[at], s[at + 1], s[at + 2], s[at + 3]])
 }
 
 // Eight bytes.
@@ -29,8 +31,8 @@ pub fn eight(s: &[u8], at: usize) -> usize
     requires { at + 8 ≤ length s.now }
     ensures { result ≡ eight_at s.now at }
 {
-    let high = word(s, at) * 65_536 + word(s, at + 2);
-    (high * 65_536 + word(s, at + 4)) * 65_536 + word(s, at + 6)
+    let bytes: &[u8; 8] = s[at..].first_chunk().unwrap();
+    usize::from_be_bytes(*bytes)
 }
 
 // The record of the first 58 bytes: its fields in their order, start and end in one byte each, the others in eight.
@@ -49,4 +51,14 @@ pub fn record_of(s: &[u8]) -> Record
         litres: eight(s, 42) as u64,
         length: eight(s, 50),
     }
+}
+
+// An area of the bytes that are given, and of one value behind them.
+pub fn area(given: &[u8], more: u8) -> [u8; MOST_AREA]
+    requires { length given.now ≤ MOST_AREA }
+    ensures { result ≡ area_of MOST_AREA given.now more }
+{
+    let mut bytes = [more; MOST_AREA];
+    bytes[..given.len()].copy_from_slice(given);
+    bytes
 }

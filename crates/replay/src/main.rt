@@ -1,10 +1,13 @@
 // Replays the trials on standard input.
 #![tactic(auto)]
 
-use limits::STDIN;
+use arrayvec::ArrayVec;
+use std::io;
+use std::io::Read;
+use text::LONGEST_INPUT;
 
-fn main() {
-    let mut space = io::large_buffer();
-    let n = io::read_full(STDIN, &mut space);
-    kinds::replay_case(&space[..n]);
+fn main(rt: HostRuntime) {
+    let mut input = ArrayVec::<u8, LONGEST_INPUT>::new();
+    io::copy(&mut rt.stdin().take(LONGEST_INPUT as u64), &mut input).ok();
+    kinds::replay_case(&rt, &input);
 }

@@ -3,4 +3,4 @@ pub mod Walking
 pub mod Word
 pub mod Route
 pub mod Guiding
-pub mod Plan
+pub mod Planned

@@ -8,7 +8,7 @@ use Rattle.std.proofs.Common.{sym, ◌∙◌, arith, eq-eqb, eqb-true}
 use Prim.Native.Nat.{ℕ, zero, suc, ◌+◌, ◌/◌, ◌%◌, ◌<◌, ◌≤◌}
 use Rattle.lists.specs.Test.{and-true}
 use Rattle.walks.specs.Graph.{Graph, arc_weight}
-use Rattle.walks.specs.Walk.{weight_of, hops}
+use Rattle.walks.specs.Walk.{weight_of}
 use Rattle.walks.specs.Avoid.{Avoids}
 use Rattle.walks.specs.Best.{Best, None}
 use Rattle.distances.specs.Table.{at, inf, passes}

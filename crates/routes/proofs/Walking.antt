@@ -1,11 +1,13 @@
--- What `walk` has done when it has written k vertices and is at state q, and what one turn of its loop does.
+-- What `walk` has done when it has written k vertices and is at state q, and what one turn of its loop does. Its loop has what is lent of the area after the first byte.
 use mathlib.Core.List.{List, [], ◌∷◌, ◌++◌, append_assoc, append-nil}
 use mathlib.Core.Path.{◌≡◌, refl, sym, ap, ap₂, ◌∙◌}
-use Prim.Native.Nat.{ℕ, suc, ◌+◌, ◌%◌, ◌<◌, ◌≤◌}
+use Prim.Native.Nat.{ℕ, suc, ◌+◌, ◌-◌, ◌%◌, ◌<◌, ◌≤◌}
 use native.Mathlib.Numerals.{add-one}
 use native.Mathlib.Omega.{arith}
-use lib.ListN.{length, drop, set, length-append}
-use lib.Seq.{drop-cons, drop-set-lt, set_at, set_split}
+use lib.ListN.{length, take, drop, set, length-append, drop_of_length-le}
+use lib.Seq.{drop-cons, set_at}
+use Rattle.std.proofs.lemmas.List.{length-take, drop-drop, set_split}
+use borrow.Rule.Slice.PartMut.{put_mid}
 use Rattle.distances.specs.Table.{at, inf}
 use Rattle.distances.specs.Pack.{hops_limit}
 use Rattle.product.specs.Product.{step_to}
@@ -44,26 +46,39 @@ module _ (weights steps blockeds latests d : List ℕ) (n s : ℕ) (old : List �
         }
 
 -- The first vertex is written.
-pub walking_start : (weights steps blockeds latests d : List ℕ) (n s : ℕ) (old : List ℕ) → s < length d → at d s < inf → 0 < length old
-    → Walking weights steps blockeds latests d n s (set old 0 s) (set old 0 s) s 1
-walking_start weights steps blockeds latests d n s old h near room = record {
-  written = s ∷ [];
-  written-length = refl;
-  area-is = rw (set_split old 0 s room) refl;
-  state-below = h;
-  near = near;
-  left = omega arith;
-  goes_on = refl;
-}
+module _ (weights steps blockeds latests d : List ℕ) (n s : ℕ) where
+  pub walking_start : (lent : List ℕ) → s < length d → at d s < inf → Walking weights steps blockeds latests d n s (s ∷ lent) (s ∷ lent) s 1
+  walking_start lent h near = record {
+    written = s ∷ [];
+    written-length = refl;
+    area-is = refl;
+    state-below = h;
+    near = near;
+    left = omega arith;
+    goes_on = refl;
+  }
 
--- All hops are walked.
-pub walking_done : (weights steps blockeds latests d : List ℕ) (n s : ℕ) (old : List ℕ) {area : List ℕ} {q k : ℕ} → Walking weights steps blockeds latests d n s (set old 0 s) area q k
-    → at d s % hops_limit + 1 ≤ k
-    → (at d s % hops_limit + 1 ≡ length (walk_from weights steps blockeds latests d n s)) × (area ≡ walk_from weights steps blockeds latests d n s ++ drop (at d s % hops_limit + 1) old)
-unfolding route
-walking_done weights steps blockeds latests d n s old {area} {q} {k} w all =
-    let none : at d q % hops_limit ≡ 0 = omega (arith, w.left) in
-    let end : k ≡ at d s % hops_limit + 1 = omega (arith, w.left) in
-    let same : w.written ≡ walk_from weights steps blockeds latests d n s = sym (append-nil w.written) ∙ rw none at w.goes_on in
-    let rest : drop k (set old 0 s) ≡ drop (at d s % hops_limit + 1) old = drop-set-lt k old 0 s (omega arith) ∙ ap (λ x. drop x old) end in
-    (omega (arith, length-route weights steps blockeds latests d n (at d s % hops_limit) s), w.area-is ∙ ap₂ (λ x y. x ++ y) same rest)
+  -- The next one.
+  pub walking_turn : (lent : List ℕ) {items : List ℕ} {q : ℕ} (i : ℕ) → Guiding n weights steps blockeds latests d → Walking weights steps blockeds latests d n s (s ∷ lent) (s ∷ items) q (i + 1)
+      → i + 1 < at d s % hops_limit + 1 → i + 1 < length (s ∷ lent)
+      → Walking weights steps blockeds latests d n s (s ∷ lent) (s ∷ set items i (next weights steps blockeds latests d n q)) (step_to weights steps blockeds latests q (next weights steps blockeds latests d n q)) (i + 1 + 1)
+  walking_turn lent {items} {q} i g w more room =
+      let entered : set (s ∷ items) (i + 1) (next weights steps blockeds latests d n q) ≡ s ∷ set items i (next weights steps blockeds latests d n q) = rw add-one refl in
+      rw entered at (walking_next weights steps blockeds latests d n s (s ∷ lent) g w more room)
+
+  -- All hops are walked.
+  pub walk-length : at d s % hops_limit + 1 ≡ length (walk_from weights steps blockeds latests d n s)
+  walk-length = omega (arith, length-route weights steps blockeds latests d n (at d s % hops_limit) s)
+
+  pub walking_done : (old : List ℕ) {items : List ℕ} {q k : ℕ} → at d s % hops_limit < length old
+      → Walking weights steps blockeds latests d n s (s ∷ take (at d s % hops_limit + 1 - 1) (drop 1 (set old 0 s))) (s ∷ items) q k → at d s % hops_limit + 1 ≤ k
+      → put_mid 1 (at d s % hops_limit + 1 - 1) (set old 0 s) items ≡ walk_from weights steps blockeds latests d n s ++ drop (at d s % hops_limit + 1) old
+  unfolding route
+  walking_done old {items} {q} {k} room w all =
+      let h : ℕ = at d s % hops_limit + 1 - 1 in
+      let none : at d q % hops_limit ≡ 0 = omega (arith, w.left) in
+      let same : w.written ≡ walk_from weights steps blockeds latests d n s = sym (append-nil w.written) ∙ rw none at w.goes_on in
+      let over : drop k (s ∷ take h (drop 1 (set old 0 s))) ≡ [] = drop_of_length-le (s ∷ take h (drop 1 (set old 0 s))) (omega (arith, length-take h (drop 1 (set old 0 s)))) in
+      let front : s ∷ items ≡ walk_from weights steps blockeds latests d n s = w.area-is ∙ ap (λ l. w.written ++ l) over ∙ append-nil w.written ∙ same in
+      let rest : drop h (drop 1 old) ≡ drop (at d s % hops_limit + 1) old = drop-drop h 1 old ∙ ap (λ x. drop x old) (omega arith) in
+      ap (λ l. put_mid 1 h l items) (set_split old 0 s (omega arith)) ∙ ap₂ (λ x y. x ++ y) front rest

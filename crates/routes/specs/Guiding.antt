@@ -4,7 +4,7 @@ use Rattle.distances.specs.Table.{at, inf}
 use Rattle.distances.specs.Pack.{hops_limit}
 use Rattle.product.specs.Product.{step_to}
 use Rattle.routes.specs.Route.{Guided}
-use Rattle.product.specs.Fits.{Row, Fits, fits}
+use Rattle.product.specs.Fits.{Row, Fits}
 
 -- State q with its entry of a table of distances d: the states after it have theirs, and none is above `inf`.
 pub record Node (n : ℕ) (weights steps blockeds latests d : List ℕ) (q : ℕ) : Type 0 where

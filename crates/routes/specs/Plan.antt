@@ -1,14 +1,13 @@
 -- What a plan is, and that the search over the tables gives it.
-use Rattle.std.specs.Prelude.{Bool, List, ◌++◌, ◌≡◌, ℕ, ◌-◌, ◌<◌, ◌≤◌, length, drop}
+use Rattle.std.specs.Prelude.{Bool, List, ◌++◌, ◌≡◌, ℕ, ◌<◌, ◌≤◌, length, drop, Option, Some, None}
 use Rattle.walks.specs.Graph.{Graph}
 use Rattle.walks.specs.Walk.{weight_of, hops}
-use Rattle.walks.specs.Best.{Best, None}
+use Rattle.walks.specs.Best.{Best, None as NoWalk}
 use Rattle.distances.specs.Table.{passes}
 use Rattle.automaton.specs.Area.{Spells, Bounded, Given}
 use Rattle.automaton.specs.Built.{Built}
 use Rattle.limits.specs.Limits.{longest}
-use Rattle.routes.specs.declared.Found.{Found}
-use Rattle.routes.specs.declared.Found.TheVariants.{Walk, Nothing}
+use Rattle.routes.specs.declared.Plan.{Plan}
 use Rattle.walks.specs.Weights.{Weights}
 use Rattle.product.specs.Product.{state_edges}
 use Rattle.product.specs.Base.{base, directed}
@@ -22,9 +21,9 @@ pub record PlannedWalk (g : Graph) (F : List (List ℕ)) (s t : ℕ) (old : List
   pub area-is : new ≡ walk ++ drop (length walk) old
 
 -- 01, 'Planning': the answer and the area after it, for the walks of g from s to t that avoid F.
-abbrev pub Searched : Graph → List (List ℕ) → ℕ → ℕ → List ℕ → Found → List ℕ → Type 0
-Searched g F s t old (Walk weight hops') new = PlannedWalk g F s t old weight hops' new
-Searched g F s t old Nothing new = None g F s t × (new ≡ old)
+abbrev pub Searched : Graph → List (List ℕ) → ℕ → ℕ → List ℕ → Option Plan → List ℕ → Type 0
+Searched g F s t old (Some p) new = PlannedWalk g F s t old p.weight p.hops new
+Searched g F s t old None new = NoWalk g F s t × (new ≡ old)
 
 -- The tables are those of the graph g and of the automaton of F.
 pub record Prepared (g : Graph) (F : List (List ℕ)) (n m : ℕ) (weights steps blockeds latests : List ℕ) : Type 0 where
@@ -50,6 +49,6 @@ pub record Asked (weights : List ℕ) (vertices : ℕ) (paths : List ℕ) (count
   pub area-room : longest ≤ length walk
 
 -- What it answers, for each graph and forbidden set that weights and bytes stand for.
-abbrev pub SearchedAll : List ℕ → ℕ → List ℕ → ℕ → ℕ → ℕ → List ℕ → Found → List ℕ → Type 0
+abbrev pub SearchedAll : List ℕ → ℕ → List ℕ → ℕ → ℕ → ℕ → List ℕ → Option Plan → List ℕ → Type 0
 SearchedAll weights vertices paths count start end old r new =
     (g : Graph) (F : List (List ℕ)) → g.count ≡ vertices → Weights g weights → Spells paths count F → Bounded vertices F → Searched g F start end old r new

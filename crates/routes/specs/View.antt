@@ -15,7 +15,7 @@ module _ (p : Product) (d : List ℕ) where
   abbrev pub GuidingOf : Type 0
   GuidingOf = Guiding p.arcs.vertices p.arcs.weights.now p.steps.now p.blocked.now p.latest.now d
 
-  -- They are those of the graph g and the automaton of F to the vertex v, or from it.
+  -- The tables are those of the graph g and the automaton of F, and the distances lead to the vertex v, or from it.
   abbrev pub MeasuredOf : Bool → Graph → List (List ℕ) → ℕ → Type 0
   MeasuredOf towards g F v = Measured towards g F p.arcs.vertices v p.arcs.weights.now p.steps.now p.blocked.now p.latest.now d
 

@@ -14,11 +14,11 @@ use distances::{HOPS, INF};
 use limits::MOST_VERTICES;
 use product::{Product, is_open};
 
-// What is found: a walk stands in the area, and has that weight (01: litres) and as many arcs (01: changeovers); or there is none.
-#[derive(Clone, Copy)]
-pub enum Found {
-    Walk { weight: u64, hops: usize },
-    Nothing,
+// A walk that stands in an area has that weight (01: litres) and as many arcs (01: changeovers).
+#[derive(Clone, Copy, PartialEq, Eq, Debug)]
+pub struct Plan {
+    pub weight: u64,
+    pub hops: usize,
 }
 
 // The usable vertices at state q as a word: those over which the entry falls by the arc and one hop.
@@ -55,7 +55,8 @@ fn next(product: Product, q: usize, table: &[u64]) -> usize
 // Writes the vertices of the best walk from `start` into the front of the area. Answers how many there are.
 fn walk(product: Product, start: usize, table: &[u64], area: &mut [u8]) -> usize
     requires guiding { GuidingOf product table.now }
-    requires start_below { (start < product.arcs.vertices) × (start < length table.now) }
+    requires start_below { start < product.arcs.vertices }
+    requires start_within { start < length table.now }
     requires start_near { at table.now start < inf }
     requires area_room { at table.now start % hops_limit < length area.old }
     ensures counted { result ≡ length (walk_of product.entry table.now start) }
@@ -64,9 +65,9 @@ fn walk(product: Product, start: usize, table: &[u64], area: &mut [u8]) -> usize
     let count = (table[start] % HOPS as u64) as usize + 1;
     area[0] = start as u8;
     let mut q = start;
-    for k in 1..count {
+    for vertex in area[1..count].iter_mut() {
         let v = next(product, q, table);
-        area[k] = v as u8;
+        *vertex = v as u8;
         q = product.steps[q * MOST_VERTICES + v] as usize;
     }
     count
@@ -74,7 +75,7 @@ fn walk(product: Product, start: usize, table: &[u64], area: &mut [u8]) -> usize
 
 // The best walk from `start` to where the distances lead: its vertices in the front of the area; or nothing, and the area as it
 // was.
-pub fn least_walk(product: Product, start: usize, table: &[u64], area: &mut [u8]) -> Found
+pub fn least_walk(product: Product, start: usize, table: &[u64], area: &mut [u8]) -> Option<Plan>
     requires measured { (g : Graph) × (F : List (List ℕ)) × (t : ℕ) × MeasuredOf product table.now true g F t }
     requires start_below { start < product.arcs.vertices }
     requires area_room { longest ≤ length area.old }
@@ -82,11 +83,11 @@ pub fn least_walk(product: Product, start: usize, table: &[u64], area: &mut [u8]
 {
     let here = table[start];
     if here == INF {
-        return Found::Nothing;
+        return None;
     }
     let count = walk(product, start, table, area);
-    Found::Walk {
+    Some(Plan {
         weight: here / HOPS as u64,
         hops: count - 1,
-    }
+    })
 }

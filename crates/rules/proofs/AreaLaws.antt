@@ -3,6 +3,7 @@ use Rattle.std.specs.Prelude.{ℕ, zero, suc, ◌+◌, ◌-◌, ◌*◌, ◌≤�
 use Rattle.std.proofs.Common.{append_assoc, sym, ap, ap₂, ◌∙◌, add-zero, zero-add, arith, length-append, length-drop, take_at, drop_at, drop-drop, take-take, get_or-take, get_or-drop, length-take-le}
 use Rattle.std.proofs.lemmas.List.{map-append, length-replicate, replicate-append-replicate}
 use Rattle.std.proofs.Math.Seq.{paste, take-append_seam, drop-append-add}
+use borrow.Rule.Slice.PartMut.{put_mid}
 use Rattle.limits.specs.Limits.{entry_size, longest_path}
 use Rattle.book.specs.Book.{All}
 use Rattle.book.specs.Tables.{padded, entry, entries}
@@ -33,6 +34,13 @@ pub padded-zeros : (n : ℕ) (l : List ℕ) (k : ℕ) → length l + k ≤ n →
 padded-zeros n l k h = zeros-after l k (n - length (l ++ zeros k)) (n - length l) (simp (length-append, length-replicate) (omega arith))
 
 -- bytes that are written right after the list
+pub padded-put_mid : (n : ℕ) (l x : List ℕ) → length l + length x ≤ n → put_mid (length l) (length x) (padded n l) x ≡ padded n (l ++ x)
+padded-put_mid n l x h =
+    let left : ℕ = n - length l in
+    ap₂ (λ a b. a ++ (x ++ drop (length x) b)) (take-append_seam l (zeros left)) (drop_at l (zeros left) (length l) refl)
+    ∙ ap (λ z. l ++ (x ++ z)) (drop-zeros (length x) left (n - length (l ++ x)) (simp length-append (omega arith)))
+    ∙ sym (append_assoc l x _)
+
 pub padded-paste : (n : ℕ) (l x y : List ℕ) → length l + length x ≤ n → paste (padded n l) (length l) (x ++ y) (length x) ≡ padded n (l ++ x)
 padded-paste n l x y h =
     ap₂ (λ a b. a ++ b ++ drop (length l + length x) (padded n l)) (take-append_seam l (zeros (n - length l))) (take-append_seam x y)

@@ -4,7 +4,8 @@ use mathlib.Core.List.{List, [], ◌∷◌, ◌++◌, append_assoc, map}
 use mathlib.Core.Path.{◌≡◌, sym, ap, ap₂, ◌∙◌}
 use native.Mathlib.Omega.{arith}
 use lib.ListN.{length, take, drop, replicate, length-append}
-use lib.Seq.{paste, get_or-append_seam}
+use lib.Seq.{get_or-append_seam}
+use borrow.Rule.Slice.PartMut.{put_mid}
 use Rattle.book.specs.Book.{All}
 use Rattle.book.proofs.BookLaws.{all_snoc}
 use Rattle.book.specs.Tables.{padded, entry, entries}
@@ -13,7 +14,7 @@ use Rattle.rules.specs.Area.{written, blocks}
 use Rattle.limits.specs.Limits.{area_size}
 use Rattle.book.specs.EntryLaws.{Short}
 use Rattle.book.proofs.EntryLaws.{length-padded, length-entry, entries_snoc, length-entries}
-use Rattle.rules.proofs.AreaLaws.{padded-zeros, padded-paste, entry-at, member-entry, blocks-entries}
+use Rattle.rules.proofs.AreaLaws.{padded-zeros, padded-put_mid, entry-at, member-entry, blocks-entries}
 
 module _ (F : List (List ℕ)) (short : All Short F) where
   pub length-written : length F ≤ 256 → length (written F) ≡ area_size
@@ -25,20 +26,20 @@ module _ (F : List (List ℕ)) (short : All Short F) where
 
   module _ (p : List ℕ) (fits : Short p) (room : length F < 256) where
     -- bytes that are written after them
-    after_them : (x y : List ℕ) (k : ℕ) → length x ≡ k → k ≤ 9 → paste (written F) (length F * 9) (x ++ y) k ≡ padded area_size (entries F ++ x)
-    after_them x y k e few =
+    after_them : (x : List ℕ) (k : ℕ) → length x ≡ k → k ≤ 9 → put_mid (length F * 9) k (written F) x ≡ padded area_size (entries F ++ x)
+    after_them x k e few =
         let front = length-entries F short in
-        ap₂ (λ i m. paste (written F) i (x ++ y) m) (sym front) (sym e) ∙ padded-paste area_size (entries F) x y (omega arith)
+        ap₂ (λ i m. put_mid i m (written F) x) (sym front) (sym e) ∙ padded-put_mid area_size (entries F) x (omega arith)
 
     -- an entry is written
-    pub entry-entered : (y : List ℕ) → paste (written F) (length F * 9) (entry p ++ y) 9 ≡ written (F ++ (p ∷ []))
-    entry-entered y = after_them (entry p) y 9 (length-entry p fits) (omega arith) ∙ ap (padded area_size) (sym (entries_snoc F p))
+    pub entry-entered : put_mid (length F * 9) 9 (written F) (entry p) ≡ written (F ++ (p ∷ []))
+    entry-entered = after_them (entry p) 9 (length-entry p fits) (omega arith) ∙ ap (padded area_size) (sym (entries_snoc F p))
 
     -- the length and the vertices are written
-    pub path-entered : (y : List ℕ) → paste (written F) (length F * 9) ((length p ∷ p) ++ y) (1 + length p) ≡ written (F ++ (p ∷ []))
-    path-entered y =
+    pub path-entered : put_mid (length F * 9) (1 + length p) (written F) (length p ∷ p) ≡ written (F ++ (p ∷ []))
+    path-entered =
         let front = length-entries F short in
-        after_them (length p ∷ p) y (1 + length p) (omega arith) (omega arith)
+        after_them (length p ∷ p) (1 + length p) (omega arith) (omega arith)
         ∙ sym (padded-zeros area_size (entries F ++ (length p ∷ p)) (8 - length p) (simp length-append (omega arith)))
         ∙ ap (padded area_size) (append_assoc (entries F) (length p ∷ p) (replicate (8 - length p) 0) ∙ sym (entries_snoc F p))
 

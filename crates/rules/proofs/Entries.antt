@@ -1,18 +1,13 @@
--- The entries of an area, tested one at a time, and the path that one spells.
+-- The entries of an area, tested one at a time.
 use Prim.Native.Nat.{ℕ, ◌+◌, ◌-◌, ◌*◌, ◌≤◌, ◌<◌}
-use mathlib.Core.Bool.{Bool, true, false, ◌&&◌, ◌||◌}
+use mathlib.Core.Bool.{Bool, true, false, ◌||◌}
 use mathlib.Core.List.{List, [], ◌∷◌, map}
-use mathlib.Core.Path.{◌≡◌, refl, sym, ap, ap₂, ◌∙◌}
+use mathlib.Core.Path.{◌≡◌, refl, ap, ◌∙◌}
 use native.Mathlib.Omega.{arith}
-use borrow.Author.Tests.{le-leb, lt-leb}
-use lib.Dec.{leb}
-use lib.ListN.{length, get_or, take, drop}
-use lib.Seq.{slice}
+use lib.ListN.{take, drop}
 use Rattle.lists.specs.Test.{any, all}
-use Rattle.book.specs.Book.{is_path}
-use Rattle.rules.specs.Area.{blocks, is_entry}
-use Rattle.rules.proofs.AreaLaws.{blocks_from, length-byte, path_part}
-use Rattle.lists.specs.Paste.{slice_part}
+use Rattle.rules.specs.Area.{blocks}
+use Rattle.rules.proofs.AreaLaws.{blocks_from}
 
 pub any-map : (f : List ℕ → Bool) (g : List ℕ → List ℕ) (l : List (List ℕ)) → any f (map g l) ≡ any (λ x. f (g x)) l
 any-map f g [] = refl
@@ -45,14 +40,3 @@ module _ (f : List ℕ → Bool) (n k : ℕ) (t : List ℕ) where
 
     pub all-later : f (take 9 (drop (k * 9) t)) ≡ true → all f (blocks (n - k) (drop (k * 9) t)) ≡ all f (blocks (n - (k + 1)) (drop ((k + 1) * 9) t))
     all-later e = ap (all f) (blocks_from n k t more) ∙ rw e
-
--- ---- the entry at a byte
-module _ (area : List ℕ) (at v : ℕ) where
-  pub entry-long : 8 < get_or area at 0 → is_entry v (take 9 (drop at area)) ≡ false
-  entry-long h = rw (length-byte area at, lt-leb _ _ h)
-
-  pub entry-path : at + 9 ≤ length area → get_or area at 0 ≤ 8 → is_entry v (take 9 (drop at area)) ≡ is_path v (slice (at + 1) (at + 1 + get_or area at 0) area)
-  entry-path within high =
-      ap₂ (λ n p. leb n 8 && is_path v p) (length-byte area at)
-      (path_part area at (get_or area at 0) refl high ∙ sym (slice_part (at + 1) (get_or area at 0) area (omega arith)))
-      ∙ rw (le-leb _ _ high)

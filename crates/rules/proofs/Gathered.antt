@@ -6,11 +6,12 @@ use mathlib.Core.Path.{◌≡◌, refl, sym, ap, ap₂, ◌∙◌}
 use native.Mathlib.Nat.{add-zero}
 use native.Mathlib.Numerals.{add-one}
 use native.Mathlib.Omega.{arith}
-use lib.ListN.{length, get_or, take, drop, replicate, length-append, drop_of_length-le, take-append-drop}
-use lib.Seq.{paste, drop-cons, get_or-drop, drop-drop}
+use borrow.Rule.Slice.PartMut.{put_mid}
+use lib.ListN.{length, get_or, take, drop, replicate, length-append, drop_of_length-le}
+use lib.Seq.{drop-cons, get_or-drop, drop-drop}
 use Rattle.book.specs.Book.{RuleSet, Book, All, all_paths}
 use Rattle.book.proofs.BookLaws.{all_snoc}
-use Rattle.book.proofs.Loaded.{sets-short}
+use Rattle.book.proofs.LoadedLaws.{sets-short}
 use Rattle.book.specs.Tables.{IsSets, entry, entries, flags_of, owners_from, owner_table}
 use Rattle.rules.specs.Binding.{covers, applied, member, add, known}
 use Rattle.rules.specs.Area.{written, blocks}
@@ -90,77 +91,70 @@ all-at P (p ∷ F) zero h l = h.0
 all-at P (p ∷ F) (suc k) h l = all-at P F k h.1 (omega arith)
 
 -- ---- the paths of F have been entered, and those from j on are still to be judged
-module _ (flags : ℕ) (b : Book) where
-  abbrev ss : List RuleSet
-  ss = b.sets
+pub record Gathered (flags : ℕ) (b : Book) (area : List ℕ) (n j : ℕ) : Type 0 where
+  pub paths : List (List ℕ)
+  pub short : All Short paths
+  pub area-is : area ≡ written paths
+  pub count-is : n ≡ length paths
+  pub rest : collect flags (flags_of b.sets) paths (drop j (owners_from 0 b.sets)) (drop j (all_paths b.sets)) ≡ known flags b.sets
 
-  pub record Gathered (area : List ℕ) (n j : ℕ) : Type 0 where
-    pub paths : List (List ℕ)
-    pub short : All Short paths
-    pub area-is : area ≡ written paths
-    pub count-is : n ≡ length paths
-    pub rest : collect flags (flags_of ss) paths (drop j (owners_from 0 ss)) (drop j (all_paths ss)) ≡ known flags ss
+pub started : (flags : ℕ) (b : Book) {area : List ℕ} → area ≡ replicate area_size 0 → Gathered flags b area 0 0
+unfolding entries
+started flags b e = record { paths = []; short = tt; area-is = e; count-is = refl; rest = collect-bound flags (flags_of b.sets) b.sets 0 [] refl }
 
-  pub started : (area : List ℕ) → area ≡ replicate area_size 0 → Gathered area 0 0
-  unfolding entries
-  started area e = record { paths = []; short = tt; area-is = e; count-is = refl; rest = collect-bound flags (flags_of ss) ss 0 [] refl }
+module _ {flags : ℕ} {b : Book} {area : List ℕ} {n j : ℕ} (g : Gathered flags b area n j) where
+  pub finished : length (all_paths b.sets) ≤ j → (n ≡ length (known flags b.sets)) × (area ≡ written (known flags b.sets))
+  finished past =
+      let is = sym (collect_past flags (flags_of b.sets) g.paths (owners_from 0 b.sets) (all_paths b.sets) j (omega (arith, length_owners 0 b.sets))) ∙ g.rest in
+      (g.count-is ∙ ap length is, g.area-is ∙ ap written is)
 
-  module _ (area : List ℕ) (n j : ℕ) (g : Gathered area n j) where
-    pub finished : length (all_paths ss) ≤ j → (n ≡ length (known flags ss)) × (area ≡ written (known flags ss))
-    finished past =
-        let is = sym (collect_past flags (flags_of ss) g.paths (owners_from 0 ss) (all_paths ss) j (omega (arith, length_owners 0 ss))) ∙ g.rest in
-        (g.count-is ∙ ap length is, g.area-is ∙ ap written is)
+  module _ {paths : ℕ} {needed owners entries : List ℕ} (listed : IsSets b paths needed owners entries) (more : j < paths) where
+    more-listed : j < length (all_paths b.sets)
+    more-listed = omega (arith, listed.counted)
 
-    module _ (needed owners entries : List ℕ) (paths : ℕ) (listed : IsSets b paths needed owners entries) (more : j < paths) where
-      more-listed : j < length (all_paths ss)
-      more-listed = omega (arith, listed.counted)
+    abbrev path : List ℕ
+    path = get_or (all_paths b.sets) j []
 
-      abbrev path : List ℕ
-      path = get_or (all_paths ss) j []
+    -- what the path at j leaves
+    next : (x y : Bool) → covers 16 (get_or needed (get_or owners j 0) 0) flags ≡ x → member path g.paths ≡ y
+        → collect flags (flags_of b.sets) (cond x (cond y g.paths (g.paths ++ (path ∷ []))) g.paths) (drop (j + 1) (owners_from 0 b.sets)) (drop (j + 1) (all_paths b.sets)) ≡ known flags b.sets
+    next x y is there =
+        let lookup =
+        ap₂ (λ l m. get_or l (get_or m j 0) 0) listed.flags_are listed.owners_are
+        ∙ zeros-after (flags_of b.sets) (16 - length (flags_of b.sets)) (get_or (owner_table b.sets) j 0)
+        ∙ ap (λ o. get_or (flags_of b.sets) o 0) (zeros-after (owners_from 0 b.sets) (256 - length (owners_from 0 b.sets)) j) in
+        ap₂ (λ u v. collect flags (flags_of b.sets) (cond u (cond v g.paths (g.paths ++ (path ∷ []))) g.paths) (drop (j + 1) (owners_from 0 b.sets)) (drop (j + 1) (all_paths b.sets)))
+        (sym is ∙ ap (λ f. covers 16 f flags) lookup) (sym there)
+        ∙ sym (collect-next flags (flags_of b.sets) g.paths (owners_from 0 b.sets) (all_paths b.sets) j (omega (arith, length_owners 0 b.sets, more-listed)) more-listed)
+        ∙ g.rest
 
-      -- what the path at j leaves
-      next : (x y : Bool) → covers 16 (get_or needed (get_or owners j 0) 0) flags ≡ x → member path g.paths ≡ y
-          → collect flags (flags_of ss) (cond x (cond y g.paths (g.paths ++ (path ∷ []))) g.paths) (drop (j + 1) (owners_from 0 ss)) (drop (j + 1) (all_paths ss)) ≡ known flags ss
-      next x y a b =
-          let lookup =
-          ap₂ (λ l m. get_or l (get_or m j 0) 0) listed.flags_are listed.owners_are
-          ∙ zeros-after (flags_of ss) (16 - length (flags_of ss)) (get_or (owner_table ss) j 0)
-          ∙ ap (λ o. get_or (flags_of ss) o 0) (zeros-after (owners_from 0 ss) (256 - length (owners_from 0 ss)) j) in
-          ap₂ (λ u v. collect flags (flags_of ss) (cond u (cond v g.paths (g.paths ++ (path ∷ []))) g.paths) (drop (j + 1) (owners_from 0 ss)) (drop (j + 1) (all_paths ss)))
-          (sym a ∙ ap (λ f. covers 16 f flags) lookup) (sym b)
-          ∙ sym (collect-next flags (flags_of ss) g.paths (owners_from 0 ss) (all_paths ss) j (omega (arith, length_owners 0 ss, more-listed)) more-listed)
-          ∙ g.rest
+    pub passed_over : covers 16 (get_or needed (get_or owners j 0) 0) flags ≡ false → Gathered flags b area n (j + 1)
+    passed_over e =
+        record { paths = g.paths; short = g.short; area-is = g.area-is; count-is = g.count-is; rest = next false (member path g.paths) e refl }
 
-      pub passed_over : covers 16 (get_or needed (get_or owners j 0) 0) flags ≡ false → Gathered area n (j + 1)
-      passed_over e =
-          record { paths = g.paths; short = g.short; area-is = g.area-is; count-is = g.count-is; rest = next false (member path g.paths) e refl }
+    -- the path's entry
+    module _ (applies : covers 16 (get_or needed (get_or owners j 0) 0) flags ≡ true) {bytes : List ℕ} (cut : bytes ≡ take 9 (drop (j * 9) entries)) where
+      entry-is : bytes ≡ entry path
+      entry-is = cut ∙ ap (λ t. take 9 (drop (j * 9) t)) listed.paths_are ∙ entry-at (all_paths b.sets) _ j (sets-short listed) more-listed
 
-      entry-is : take 9 (drop (j * 9) entries) ≡ entry path
-      entry-is = ap (λ t. take 9 (drop (j * 9) t)) listed.paths_are ∙ entry-at (all_paths ss) _ j (sets-short listed) more-listed
+      searched : member bytes (blocks n area) ≡ member path g.paths
+      searched =
+          ap₂ member entry-is (ap (blocks n) g.area-is ∙ blocks-written g.paths g.short n g.count-is) ∙ member-entry path g.paths
 
-      module _ (applies : covers 16 (get_or needed (get_or owners j 0) 0) flags ≡ true) where
-        searched : member (take 9 (drop (j * 9) entries)) (blocks n area) ≡ member path g.paths
-        searched =
-            ap₂ member entry-is (ap (blocks n) g.area-is ∙ blocks-written g.paths g.short n g.count-is) ∙ member-entry path g.paths
+      pub known_already : member bytes (blocks n area) ≡ true → Gathered flags b area n (j + 1)
+      known_already e =
+          record { paths = g.paths; short = g.short; area-is = g.area-is; count-is = g.count-is; rest = next true true applies (sym searched ∙ e) }
 
-        pub known_already : member (take 9 (drop (j * 9) entries)) (blocks n area) ≡ true → Gathered area n (j + 1)
-        known_already e =
-            record { paths = g.paths; short = g.short; area-is = g.area-is; count-is = g.count-is; rest = next true true applies (sym searched ∙ e) }
-
-        pub added : member (take 9 (drop (j * 9) entries)) (blocks n area) ≡ false → n < 256 → (after : List ℕ) → after ≡ paste area (n * 9) (drop (j * 9) entries) 9
-            → Gathered after (n + 1) (j + 1)
-        added e room after is =
-            let later : List ℕ = drop 9 (drop (j * 9) entries) in
-            let split : drop (j * 9) entries ≡ entry path ++ later = sym (take-append-drop 9 (drop (j * 9) entries)) ∙ ap (λ l. l ++ later) entry-is in
-            let fits = all-at Short (all_paths ss) j (sets-short listed) more-listed in
-            record {
-              paths = g.paths ++ (path ∷ []);
-              short = all_snoc Short g.paths path g.short fits;
-              area-is =
-                  is
-                  ∙ ap₂ (λ t l. paste t (n * 9) l 9) g.area-is split
-                  ∙ ap (λ m. paste (written g.paths) (m * 9) (entry path ++ later) 9) g.count-is
-                  ∙ entry-entered g.paths g.short path fits (omega (arith, g.count-is)) later;
-              count-is = ap (λ m. m + 1) g.count-is ∙ sym (length-append g.paths (path ∷ []));
-              rest = next true false applies (sym searched ∙ e);
-            }
+      pub added : member bytes (blocks n area) ≡ false → n < 256 → Gathered flags b (put_mid (n * 9) 9 area bytes) (n + 1) (j + 1)
+      added e room =
+          let fits = all-at Short (all_paths b.sets) j (sets-short listed) more-listed in
+          record {
+            paths = g.paths ++ (path ∷ []);
+            short = all_snoc Short g.paths path g.short fits;
+            area-is =
+                ap₂ (put_mid (n * 9) 9) g.area-is entry-is
+                ∙ ap (λ m. put_mid (m * 9) 9 (written g.paths) (entry path)) g.count-is
+                ∙ entry-entered g.paths g.short path fits (omega (arith, g.count-is));
+            count-is = ap (λ m. m + 1) g.count-is ∙ sym (length-append g.paths (path ∷ []));
+            rest = next true false applies (sym searched ∙ e);
+          }

@@ -1,5 +1,5 @@
-pub mod Parts
 pub mod Flags
+pub mod Chunks
 pub mod Entries
 pub mod Entered
 pub mod Validity

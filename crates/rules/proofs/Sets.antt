@@ -4,6 +4,8 @@ use Rattle.std.proofs.Common.{true≢false, inl, inr, ⊎_elim, sym, ap, ap₂, 
 use mathlib.Core.List.Memᴰ
 use mathlib.Core.List.{List, [], ◌∷◌, ◌++◌, foldl, Memᴰ}
 use Rattle.std.proofs.lemmas.Bool.{not-true}
+use Rattle.std.specs.Cmp.Lexicographic.{pointwise}
+use borrow.Author.Tests.{ne_eqb}
 use Rattle.std.proofs.Math.Dec.{eqb-suc-suc}
 use Rattle.lists.specs.Test.{T→true, true→T, and-true, any→some, some→any}
 use Rattle.walks.specs.Avoid.{is_prefix, same}
@@ -39,6 +41,13 @@ same_cons a b p q = ap (λ x. eqb a b && is_prefix p q && x) (eqb-suc-suc (lengt
     and_assoc : (x y z : Bool) → x && y && z ≡ x && (y && z)
     and_assoc true y z = refl
     and_assoc false y z = refl
+
+-- `==` on slices is this test.
+pub eq-same : (p q : List ℕ) → pointwise eqb p q ≡ same p q
+eq-same [] [] = refl
+eq-same [] (b ∷ q) = sym (ne_eqb 0 (length (b ∷ q)) (λ e. absurd (omega arith)))
+eq-same (a ∷ p) [] = refl
+eq-same (a ∷ p) (b ∷ q) = ap (λ x. eqb a b && x) (eq-same p q) ∙ sym (same_cons a b p q)
 
 -- ---- members
 pub member→Mem : (p : List ℕ) (F : List (List ℕ)) → member p F ≡ true → Memᴰ p F

@@ -1,11 +1,10 @@
 -- What binding answers, and what it leaves in the runs area.
-use Rattle.std.specs.Prelude.{ℕ, List, [], ◌∷◌, ◌++◌, leb, length, drop}
+use Rattle.std.specs.Prelude.{ℕ, List, [], ◌∷◌, ◌++◌, leb, length, drop, Result, Ok, Err}
 use Rattle.std.proofs.Math.Option.{Option, none, some}
 use Rattle.book.specs.declared.Refusal.{Refusal}
 use Rattle.book.specs.Refusal.{Test, test}
 use Rattle.book.specs.Book.{Book}
 use Rattle.book.specs.Reading.{Reading, reading, refusal_of, book_in}
-use Rattle.rules.specs.declared.Bound.{Bound}
 use Rattle.rules.specs.Binding.{known}
 use Rattle.rules.specs.Area.{written}
 use Rattle.limits.specs.Limits.{area_size}
@@ -29,9 +28,9 @@ abbrev pub binding : List ℕ → ℕ → List ℕ → Binding
 binding s flags area = binding_of (reading s) flags area
 
 -- what it answers
-abbrev pub bound_as : Binding → Bound
-bound_as (bound F) = Bound.Known (length F)
-bound_as (refused r) = Bound.Refused r
+abbrev pub bound_as : Binding → Result ℕ Refusal
+bound_as (bound F) = Ok (length F)
+bound_as (refused r) = Err r
 
 -- the area at exit: the known paths and then the bytes that were there; as it was where it is refused
 abbrev pub area_after : Binding → List ℕ → List ℕ

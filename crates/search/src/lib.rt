@@ -9,16 +9,15 @@ ghost use Rattle.states.specs.Count.{states_of, most_states};
 ghost use Rattle.limits.specs.Limits.{longest, most_vertices};
 ghost use Rattle.routes.specs.Plan.{Asked, SearchedAll};
 
-use automaton::{Automaton, PREFIXES, STATES, STEPS};
-use distances::{Edge, INF};
+use automaton::{PREFIXES, STATES, STEPS};
 use limits::MOST_VERTICES;
 use measuring::Work;
 use product::{Goal, Product};
-use routes::{Found, least_walk};
+use routes::{Plan, least_walk};
 use walks::{ArcTable, PathArea};
 
-// How many states and steps there are for a usual book at most (01: 30 grades, 20 runs). Work tables are cleared before use, and to clear those for all
-// states would take longer than a usual search.
+// How many states and steps there are for a usual book at most (01: 30 grades, 20 runs). Work tables are cleared before use, and to
+// clear those for all states would take longer than a usual search.
 const USUAL_STATES: usize = 160;
 
 const USUAL_STEPS: usize = USUAL_STATES * MOST_VERTICES;
@@ -30,44 +29,28 @@ fn search_in<const S: usize, const T: usize>(
     start: usize,
     end: u8,
     walk: &mut [u8],
-) -> Found
+) -> Option<Plan>
     requires asked { Asked arcs.weights.now arcs.vertices paths.bytes.now paths.count start walk.old }
     requires states_fit { states_of arcs.vertices paths.count ≤ S }
     requires few_states { S ≤ most_states }
     requires steps_fit { T ≡ S * most_vertices }
     ensures { SearchedAll arcs.entry.weights.now arcs.entry.vertices paths.entry.bytes.now paths.entry.count start end walk.old result walk.new }
 {
-    // written out here and in `end_search`: as the result of a function the tables would be copied
-    let mut work = Work::<S, T> {
-        automaton: Automaton {
-            steps: [0; T],
-            blocked: [0; S],
-            latest: [0; S],
-            fail: [0; S],
-        },
-        edges: [Edge {
-            tail: 0,
-            head: 0,
-            cost: 0,
-        }; T],
-        first: [0; S],
-        next: [0; T],
-        seen: [INF; S],
-        table: [0; S],
-    };
+    let mut work = Work::<S, T>::blank();
     let states = work.measure(arcs, paths, Goal::To(end));
-    let product = Product {
-        arcs,
-        steps: &work.automaton.steps,
-        blocked: &work.automaton.blocked,
-        latest: &work.automaton.latest,
-    };
+    let product = Product::of(arcs, &work.automaton);
     least_walk(product, start, &work.table[..states], walk)
 }
 
 // Writes the best walk from start to end that avoids the forbidden paths into the front of the area `walk`, and answers its
 // weight and hops; or nothing, and the area as it was.
-pub fn best_walk(arcs: ArcTable, paths: PathArea, start: usize, end: u8, walk: &mut [u8]) -> Found
+pub fn best_walk(
+    arcs: ArcTable,
+    paths: PathArea,
+    start: usize,
+    end: u8,
+    walk: &mut [u8],
+) -> Option<Plan>
     requires given { Given paths.bytes.now paths.count arcs.vertices }
     requires weighed { (g : Graph) × (g.count ≡ arcs.vertices) × Weights g arcs.weights.now }
     requires start_below { start < arcs.vertices }

@@ -1,20 +1,15 @@
 -- The replay of a list of reports: what each turn of it keeps.
-use Prim.Native.Nat.{ℕ, ◌+◌}
-use mathlib.Core.Bool.{Bool, true, false}
-use mathlib.Core.List.{List, []}
-use mathlib.Core.Option.{Option, none, some}
-use mathlib.Core.Path.{◌≡◌, refl, sym, ap, ap₂, subst, ◌∙◌}
-use native.Mathlib.Omega.{arith}
-use lib.ListN.{drop}
-use lib.Seq.{drop-drop}
+use Rattle.std.specs.Prelude.{ℕ, ◌+◌, ◌≡◌, Bool, true, false, List, [], Result, Ok, Err, Some, None, drop}
+use Rattle.std.proofs.Math.Option.{Option, none, some}
+use Rattle.std.proofs.Math.Path.{refl, ap}
+use Rattle.std.proofs.Common.{sym, ap₂, subst, ◌∙◌, drop-drop}
 use Rattle.walks.specs.Graph.{Graph}
 use Rattle.states.specs.Chosen.{chosen}
 use Rattle.book.specs.declared.Refusal.{Refusal}
 use Rattle.book.specs.Book.{Book, graph}
 use Rattle.book.specs.Reading.{Reading, accepted, refused, reading}
 use Rattle.trial_record.specs.declared.Record.{Record}
-use Rattle.trials.specs.declared.Begun.{Begun}
-use Rattle.trials.specs.declared.Reported.{Reported}
+use Rattle.trials.specs.declared.Rejected.{Rejected}
 use Rattle.series.specs.declared.Made.{Made}
 use Rattle.trial_rules.specs.Trials.{Report, State, begin_refusal, after, run, state_after}
 use Rattle.trials.specs.Operations.{Leaves, answering, begun_as, first_state, beginning_of, beginning, reporting, record_in}
@@ -24,25 +19,20 @@ use Rattle.series.specs.Making.{made_if, making, replaying_of, replaying}
 use Rattle.trial_rules.proofs.Invariant.{Invariant, invariant_begin}
 use Rattle.series.specs.Whole.{leaves_of, report_on, report_leaves, after-keeps, opened, replay_leaves}
 
-no_record : {x : Refusal} {r : Record} → Begun.Refused x ≡ Begun.Record r → ⊥
-no_record e = let z : ◌≡◌ {A = ℕ} 0 1 = cc in omega arith
-
-no_end : {x : Reported} {n : ℕ} → Made.Report x n ≡ Made.End → ⊥
-no_end e = let z : ◌≡◌ {A = ℕ} 0 1 = cc in omega arith
-
 module _ (s : List ℕ) (flags start end : ℕ) (reports paths₀ walk₀ : List ℕ) where
   -- A refused begin is a refused replay.
-  pub not-begun : (m : Leaves Begun) (x : Refusal) → m ≡ beginning s flags start end paths₀ walk₀ → m.answer ≡ Begun.Refused x
-      → m ≡ replaying s flags start end reports paths₀ walk₀
-  not-begun m x e is = go (reading s) e
+  pub not-begun : (x : Refusal) (paths walk : List ℕ) → answering (Err x) paths walk ≡ beginning s flags start end paths₀ walk₀
+      → answering (Err x) paths walk ≡ replaying s flags start end reports paths₀ walk₀
+  not-begun x paths walk e = go (reading s) e
     where
-      go : (y : Reading) → m ≡ beginning_of y flags start end paths₀ walk₀ → m ≡ replaying_of y flags start end reports paths₀ walk₀
+      go : (y : Reading) → answering (Err x) paths walk ≡ beginning_of y flags start end paths₀ walk₀
+          → answering (Err x) paths walk ≡ replaying_of y flags start end reports paths₀ walk₀
       go (refused z) e = e
       go (accepted b) e = on (begin_refusal (graph b) start end paths₀ walk₀) e
         where
-          on : (o : Option Refusal) → m ≡ begun_as o (first_state b flags start end paths₀ walk₀) paths₀ walk₀
-              → m ≡ begun_as o (run (graph b) (chosen (graph b)) (first_state b flags start end paths₀ walk₀) (reports_of reports)) paths₀ walk₀
-          on none e = absurd (no_record (sym is ∙ ap (λ (l : Leaves Begun). l.answer) e))
+          on : (o : Option Refusal) → answering (Err x) paths walk ≡ begun_as o (first_state b flags start end paths₀ walk₀) paths₀ walk₀
+              → answering (Err x) paths walk ≡ begun_as o (run (graph b) (chosen (graph b)) (first_state b flags start end paths₀ walk₀) (reports_of reports)) paths₀ walk₀
+          on none e = absurd (let z : Err x ≡ Ok (first_state b flags start end paths₀ walk₀).rec = ap (λ (l : Leaves (Result Record Refusal)). l.answer) e in cc)
           on (some z) e = e
 
   -- After some reports: the state of the trials, and that the reports from a place on lead to the end.
@@ -56,19 +46,21 @@ module _ (s : List ℕ) (flags start end : ℕ) (reports paths₀ walk₀ : List
     held : l ≡ leaves_of state
     leads : run (graph book) (chosen (graph book)) state (reports_of (drop at reports)) ≡ state_after (opened s book read flags start end paths₀ walk₀ begins) (reports_of reports)
 
-  pub replayed-begin : (m : Leaves Begun) (r : Record) → m ≡ beginning s flags start end paths₀ walk₀ → m.answer ≡ Begun.Record r → Replayed (answering r m.paths m.walk) 0
-  replayed-begin m r e is = go (reading s) refl e
+  pub replayed-begin : (r : Record) (paths walk : List ℕ) → answering (Ok r) paths walk ≡ beginning s flags start end paths₀ walk₀
+      → Replayed (answering r paths walk) 0
+  replayed-begin r paths walk e = go (reading s) refl e
     where
-      go : (y : Reading) → reading s ≡ y → m ≡ beginning_of y flags start end paths₀ walk₀ → Replayed (answering r m.paths m.walk) 0
-      go (refused z) read e = absurd (no_record (sym (ap (λ (l : Leaves Begun). l.answer) e) ∙ is))
+      go : (y : Reading) → reading s ≡ y → answering (Ok r) paths walk ≡ beginning_of y flags start end paths₀ walk₀ → Replayed (answering r paths walk) 0
+      go (refused z) read e = absurd (let w : Ok r ≡ Err z = ap (λ (l : Leaves (Result Record Refusal)). l.answer) e in cc)
       go (accepted b) read e = on (begin_refusal (graph b) start end paths₀ walk₀) refl e
         where
-          on : (o : Option Refusal) → begin_refusal (graph b) start end paths₀ walk₀ ≡ o → m ≡ begun_as o (first_state b flags start end paths₀ walk₀) paths₀ walk₀
-              → Replayed (answering r m.paths m.walk) 0
-          on (some z) begins e = absurd (no_record (sym (ap (λ (l : Leaves Begun). l.answer) e) ∙ is))
+          on : (o : Option Refusal) → begin_refusal (graph b) start end paths₀ walk₀ ≡ o
+              → answering (Ok r) paths walk ≡ begun_as o (first_state b flags start end paths₀ walk₀) paths₀ walk₀
+              → Replayed (answering r paths walk) 0
+          on (some z) begins e = absurd (let w : Ok r ≡ Err z = ap (λ (l : Leaves (Result Record Refusal)). l.answer) e in cc)
           on none begins e =
               let σ = first_state b flags start end paths₀ walk₀ in
-              let same : Begun.Record r ≡ Begun.Record σ.rec = sym is ∙ ap (λ (l : Leaves Begun). l.answer) e in
+              let same : Ok r ≡ Ok σ.rec = ap (λ (l : Leaves (Result Record Refusal)). l.answer) e in
               let r-is : r ≡ σ.rec = cc in
               record {
                 book = b;
@@ -77,7 +69,7 @@ module _ (s : List ℕ) (flags start end : ℕ) (reports paths₀ walk₀ : List
                 state = σ;
                 done = [];
                 keeps = invariant_begin (opened s b read flags start end paths₀ walk₀ begins);
-                held = ap₂ (λ (x : Record) (l : Leaves Begun). answering x l.paths l.walk) r-is e;
+                held = ap₂ (λ (x : Record) (l : Leaves (Result Record Refusal)). answering x l.paths l.walk) r-is e;
                 leads = refl;
               }
 
@@ -90,15 +82,6 @@ module _ (s : List ℕ) (flags start end : ℕ) (reports paths₀ walk₀ : List
 
     abbrev rest : List ℕ
     rest = drop at reports
-
-    -- At the end of the list the replay is done.
-    pub replayed-end : is_report (drop at reports) ≡ false → answering (Begun.Record l.answer) l.paths l.walk ≡ replaying s flags start end reports paths₀ walk₀
-    unfolding run
-    replayed-end e =
-        let last : p.state ≡ state_after (opened s b p.read flags start end paths₀ walk₀ p.begins) (reports_of reports) =
-        sym (ap (run g (chosen g) p.state) (reports_none rest e)) ∙ p.leads in
-        ap (λ (x : Leaves Record). answering (Begun.Record x.answer) x.paths x.walk) (p.held ∙ ap leaves_of last)
-        ∙ sym (replay_leaves s b p.read flags start end paths₀ walk₀ p.begins reports)
 
     -- One more report.
     replayed-step : is_report (drop at reports) ≡ true → Replayed (report_on s l (report_in (drop at reports))) (at + size_of (drop at reports))
@@ -120,31 +103,35 @@ module _ (s : List ℕ) (flags start end : ℕ) (reports paths₀ walk₀ : List
               ∙ p.leads;
         }
 
-    pub replayed-made : (m : Leaves Made) → m ≡ making s l.answer reports at l.paths l.walk → (x : Reported) (n : ℕ) → m.answer ≡ Made.Report x n
-        → Replayed (answering (record_in x) m.paths m.walk) n × (n ≡ at + size_of (drop at reports))
-    replayed-made m e x n is = go (is_report rest) refl e
+    pub replayed-made : (m : Made) (paths walk : List ℕ) → answering (Some m) paths walk ≡ making s l.answer reports at l.paths l.walk
+        → Replayed (answering (record_in m.reported) paths walk) m.end
+    replayed-made m paths walk e = go (is_report rest) refl e
       where
-        made : Leaves Reported
+        made : Leaves (Result Record Rejected)
         made = reporting s l.answer l.paths l.walk (report_in rest)
 
-        go : (t : Bool) → is_report rest ≡ t → m ≡ made_if t made (at + size_of rest) l.paths l.walk
-            → Replayed (answering (record_in x) m.paths m.walk) n × (n ≡ at + size_of rest)
-        go false u e = absurd (no_end (sym is ∙ ap (λ (y : Leaves Made). y.answer) e))
+        go : (t : Bool) → is_report rest ≡ t → answering (Some m) paths walk ≡ made_if t made (at + size_of rest) l.paths l.walk
+            → Replayed (answering (record_in m.reported) paths walk) m.end
+        go false u e = absurd (let z : Some m ≡ None = ap (λ (y : Leaves _). y.answer) e in cc)
         go true u e =
-            let both : Made.Report x n ≡ Made.Report made.answer (at + size_of rest) = sym is ∙ ap (λ (y : Leaves Made). y.answer) e in
-            let x-is : x ≡ made.answer = cc in
-            let n-is : n ≡ at + size_of rest = cc in (
-              subst (λ k. Replayed (answering (record_in x) m.paths m.walk) k) (sym n-is)
-                  (subst (λ y. Replayed y (at + size_of rest)) (sym (ap₂ (λ (y : Reported) (z : Leaves Made). answering (record_in y) z.paths z.walk) x-is e)) (replayed-step u)),
-              n-is,
-            )
+            let both : Some m ≡ Some (record { reported = made.answer; end = at + size_of rest }) = ap (λ (y : Leaves _). y.answer) e in
+            let m-is : m ≡ record { reported = made.answer; end = at + size_of rest } = cc in
+            subst (λ k. Replayed (answering (record_in m.reported) paths walk) k) (sym (ap (λ (x : Made). x.end) m-is))
+            (subst (λ y. Replayed y (at + size_of rest)) (sym (ap₂ (λ (x : Made) (y : Leaves _). answering (record_in x.reported) y.paths y.walk) m-is e)) (replayed-step u))
 
-    pub replayed-last : (m : Leaves Made) → m ≡ making s l.answer reports at l.paths l.walk → m.answer ≡ Made.End
-        → answering (Begun.Record l.answer) m.paths m.walk ≡ replaying s flags start end reports paths₀ walk₀
-    replayed-last m e is = go (is_report rest) refl e
+    -- At the end of the list the replay is done.
+    pub replayed-last : (paths walk : List ℕ) → answering None paths walk ≡ making s l.answer reports at l.paths l.walk
+        → answering (Ok l.answer) paths walk ≡ replaying s flags start end reports paths₀ walk₀
+    unfolding run
+    replayed-last paths walk e = go (is_report rest) refl e
       where
         go : (t : Bool) → is_report rest ≡ t
-            → m ≡ made_if t (reporting s l.answer l.paths l.walk (report_in rest)) (at + size_of rest) l.paths l.walk
-            → answering (Begun.Record l.answer) m.paths m.walk ≡ replaying s flags start end reports paths₀ walk₀
-        go true u e = absurd (no_end (sym (ap (λ (y : Leaves Made). y.answer) e) ∙ is))
-        go false u e = ap (λ (y : Leaves Made). answering (Begun.Record l.answer) y.paths y.walk) e ∙ replayed-end u
+            → answering None paths walk ≡ made_if t (reporting s l.answer l.paths l.walk (report_in rest)) (at + size_of rest) l.paths l.walk
+            → answering (Ok l.answer) paths walk ≡ replaying s flags start end reports paths₀ walk₀
+        go true u e = absurd (let z : None ≡ Some _ = ap (λ (y : Leaves _). y.answer) e in cc)
+        go false u e =
+            let last : p.state ≡ state_after (opened s b p.read flags start end paths₀ walk₀ p.begins) (reports_of reports) =
+            sym (ap (run g (chosen g) p.state) (reports_none rest u)) ∙ p.leads in
+            ap (λ (y : Leaves _). answering (Ok l.answer) y.paths y.walk) e
+            ∙ ap (λ (x : Leaves Record). answering (Ok x.answer) x.paths x.walk) (p.held ∙ ap leaves_of last)
+            ∙ sym (replay_leaves s b p.read flags start end paths₀ walk₀ p.begins reports)

@@ -1,5 +1,5 @@
 -- The claims over whole lists, as they hold of the operations: of reports made one after the other, and of `replay`.
-use Rattle.std.specs.Prelude.{ℕ, ◌≡◌}
+use Rattle.std.specs.Prelude.{ℕ, ◌≡◌, Result, Ok}
 use mathlib.Core.List.{List, [], ◌∷◌, ◌++◌}
 use Rattle.std.proofs.Math.Option.{Option, none, some}
 use Rattle.std.proofs.Math.Path.{refl, ap}
@@ -10,8 +10,7 @@ use Rattle.book.specs.Book.{Book, graph}
 use Rattle.book.proofs.BookLaws.{reading-is-book}
 use Rattle.book.specs.Reading.{accepted, reading}
 use Rattle.trial_record.specs.declared.Record.{Record}
-use Rattle.trials.specs.declared.Begun.{Begun}
-use Rattle.trials.specs.declared.Reported.{Reported}
+use Rattle.trials.specs.declared.Rejected.{Rejected}
 use Rattle.trial_rules.specs.Trials.{Report, State, path_area, begin_refusal, refusal, Valid, unless, step, after, run, Begin, begun, state_after, accepted_of}
 use Rattle.trials.specs.Operations.{Leaves, answering, begun_as, beginning_of, beginning, reported_as, reporting_of, reporting, record_in}
 use Rattle.trials.specs.OperationLaws.{same_step}
@@ -54,7 +53,7 @@ module _ (s : List ℕ) (b : Book) (read : reading s ≡ accepted b) where
   report_leaves σ v ρ =
       ap next (ap (λ x. reporting_of x σ.rec (path_area σ) σ.area ρ) read ∙ same_step b σ v ρ) ∙ go (refusal (graph b) σ ρ)
     where
-      next : Leaves Reported → Leaves Record
+      next : Leaves (Result Record Rejected) → Leaves Record
       next m = answering (record_in m.answer) m.paths m.walk
 
       σ' : State
@@ -69,7 +68,7 @@ module _ (s : List ℕ) (b : Book) (read : reading s ≡ accepted b) where
     abbrev pub opened : Begin
     opened = trials_of b (reading-is-book s b read).well_formed flags start end paths walk ok
 
-    pub begin_leaves : beginning s flags start end paths walk ≡ answering (Begun.Record (begun opened).rec) (path_area (begun opened)) (begun opened).area
+    pub begin_leaves : beginning s flags start end paths walk ≡ answering (Ok (begun opened).rec) (path_area (begun opened)) (begun opened).area
     begin_leaves =
         ap (λ x. beginning_of x flags start end paths walk) read ∙ ap (λ o. begun_as o (begun opened) paths walk) ok
 
@@ -89,7 +88,7 @@ module _ (s : List ℕ) (b : Book) (read : reading s ≡ accepted b) where
     -- ... and so after every replay.
     pub replay_leaves : (reports : List ℕ)
         → replaying s flags start end reports paths walk
-        ≡ answering (Begun.Record (state_after opened (reports_of reports)).rec) (path_area (state_after opened (reports_of reports))) (state_after opened (reports_of reports)).area
+        ≡ answering (Ok (state_after opened (reports_of reports)).rec) (path_area (state_after opened (reports_of reports))) (state_after opened (reports_of reports)).area
     replay_leaves reports =
         ap (λ x. replaying_of x flags start end reports paths walk) read
         ∙ ap (λ o. begun_as o (state_after opened (reports_of reports)) paths walk) ok

@@ -2,51 +2,30 @@
 // the list, and so does any other first byte.
 #![tactic(auto)]
 
-ghost use Rattle.std.specs.Prelude.{◌≡◌, true, ◌+◌, ◌≤◌, length, drop};
+ghost use Rattle.std.specs.Prelude.{◌≡◌, if◌then◌else◌};
 ghost use Rattle.trials.specs.Operations.{answering, record_in};
-ghost use Rattle.series.specs.Reports.{is_report, size_of};
 ghost use Rattle.series.specs.Making.{making, replaying};
+ghost use Rattle.series.specs.Reports.{is_report, size_of};
 
+use book::Refusal;
 use trial_record::Record;
-use trials::{Begun, Reported, begin, report_failed, report_passed};
+use trials::{Rejected, begin, report_failed, report_passed};
 
-// A report of a list has been made, and ends at that place; or the list is at its end.
-#[derive(Clone, Copy)]
-pub enum Made {
-    Report(Reported, usize),
-    End,
+// A report of a list that has been made, and where it ends.
+#[derive(Clone, Copy, PartialEq, Eq, Debug)]
+pub struct Made {
+    pub reported: Result<Record, Rejected>,
+    pub end: usize,
 }
 
-// Whether there is a report at a place.
-fn is_report(reports: &[u8], at: usize) -> bool
-    ensures { result ≡ is_report (drop at reports.now) }
+// How many bytes the report takes that a list begins with, if it begins with one.
+fn report_size(list: &[u8]) -> Option<usize>
+    ensures { result ≡ (if is_report list.now then Some (size_of list.now) else None) }
 {
-    if reports.len() <= at {
-        return false;
-    }
-    if reports[at] == 0 {
-        return true;
-    }
-    if reports[at] != 1 {
-        return false;
-    }
-    let left = reports.len() - at;
-    if left < 2 {
-        return false;
-    }
-    2 + reports[at + 1] as usize <= left
-}
-
-// Where the report at a place ends.
-fn report_end(reports: &[u8], at: usize) -> usize
-    requires { is_report (drop at reports.now) ≡ true }
-    ensures value { result ≡ at + size_of (drop at reports.now) }
-    ensures upper_bound { result ≤ length reports.now }
-{
-    if reports[at] == 0 {
-        at + 1
-    } else {
-        at + 2 + reports[at + 1] as usize
+    match list {
+        [0, ..] => Some(1),
+        [1, n, rest @ ..] if usize::from(*n) <= rest.len() => Some(2 + usize::from(*n)),
+        _ => None,
     }
 }
 
@@ -58,31 +37,33 @@ pub fn make(
     at: usize,
     paths: &mut [u8],
     walk: &mut [u8],
-) -> Made
+) -> Option<Made>
     ensures { answering result paths.new walk.new ≡ making bytes.now rec reports.now at paths.old walk.old }
 {
-    if !is_report(reports, at) {
-        return Made::End;
-    }
-    let end = report_end(reports, at);
-    if reports[at] == 0 {
-        return Made::Report(report_passed(bytes, rec, paths, walk), end);
-    }
-    let named = &reports[at + 2..end];
-    Made::Report(report_failed(bytes, rec, paths, walk, named), end)
+    let list = reports.get(at..)?;
+    let size = report_size(list)?;
+    let reported = if list[0] == 0 {
+        report_passed(bytes, rec, paths, walk)
+    } else {
+        report_failed(bytes, rec, paths, walk, &list[2..size])
+    };
+    Some(Made {
+        reported,
+        end: at + size,
+    })
 }
 
 // The record that a report leaves.
-pub fn record_of(reported: Reported) -> Record
+pub fn record_of(reported: Result<Record, Rejected>) -> Record
     ensures { result ≡ record_in reported }
 {
     match reported {
-        Reported::Accepted(rec) => rec,
-        Reported::Refused(_, rec) => rec,
+        Ok(rec) => rec,
+        Err(rejected) => rejected.record,
     }
 }
 
-// Begins, and makes each report of the list.
+// Begins, and makes each report of the list. What it takes stands apart: this outward form is set.
 pub fn replay(
     bytes: &[u8],
     flags: u16,
@@ -91,22 +72,14 @@ pub fn replay(
     reports: &[u8],
     paths: &mut [u8],
     walk: &mut [u8],
-) -> Begun
+) -> Result<Record, Refusal>
     ensures { answering result paths.new walk.new ≡ replaying bytes.now flags start end reports.now paths.old walk.old }
 {
-    let begun = begin(bytes, flags, start, end, paths, walk);
-    let Begun::Record(first) = begun else {
-        return begun;
-    };
-    let mut rec = first;
+    let mut rec = begin(bytes, flags, start, end, paths, walk)?;
     let mut at = 0;
-    while at < reports.len() {
-        let made = make(bytes, rec, reports, at, paths, walk);
-        let Made::Report(reported, next) = made else {
-            return Begun::Record(rec);
-        };
-        rec = record_of(reported);
-        at = next;
+    while let Some(made) = make(bytes, rec, reports, at, paths, walk) {
+        rec = record_of(made.reported);
+        at = made.end;
     }
-    Begun::Record(rec)
+    Ok(rec)
 }

@@ -5,6 +5,7 @@ use Rattle.std.proofs.Math.Decide.{dec_lt}
 use Rattle.std.proofs.Math.ListN.{get_or-append}
 use Rattle.std.proofs.lemmas.List.{get_or_at}
 use Rattle.text.specs.Text.{digits, decimal, followed, vertices}
+use Rattle.text.proofs.Writing.{wrote-length}
 
 -- one digit more
 digits-next : (most n : ℕ) → digits (suc most) n ≡ cond (ltb n 10) ((48 + n) ∷ []) (digits most (n / 10) ++ ((48 + n % 10) ∷ []))
@@ -53,6 +54,13 @@ decimal-word n h = decimal-length 19 n (omega arith)
 
 pub decimal-byte : (n : ℕ) → n < 256 → length (decimal n) ≤ 3
 decimal-byte n h = decimal-length 2 n (omega arith)
+
+-- A number adds no more than its digits to what stands.
+pub adds-word : (n : ℕ) (old new : List ℕ) → n < 2 ^ 64 → new ≡ old ++ decimal n → length new ≤ length old + 20
+adds-word n old new h e = omega (arith, decimal-word n h, wrote-length (decimal n) old e)
+
+pub adds-byte : (n : ℕ) (old new : List ℕ) → n < 256 → new ≡ old ++ decimal n → length new ≤ length old + 3
+adds-byte n old new h e = omega (arith, decimal-byte n h, wrote-length (decimal n) old e)
 
 -- ---- what the digits say
 -- A text of digits, read as a number after n.

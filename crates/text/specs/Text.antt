@@ -1,12 +1,10 @@
 -- The text that the programs print (01), as bytes: numbers in decimal, words, and a line feed after each line.
-use Rattle.std.specs.Prelude.{ℕ, zero, suc, ◌+◌, ◌/◌, ◌%◌, Bool, cond, List, [], ◌∷◌, ◌++◌, ltb, take}
+use Rattle.std.specs.Prelude.{ℕ, zero, suc, ◌+◌, ◌/◌, ◌%◌, cond, List, [], ◌∷◌, ◌++◌, ltb, take, Option, Some, None}
 use Rattle.walks.specs.Graph.{Graph}
 use Rattle.walks.specs.Walk.{weight_of, hops}
-use Rattle.book.specs.declared.Number.{Number}
 use Rattle.book.specs.declared.Refusal.{Refusal}
-use Rattle.book.specs.Refusal.{number_of}
-use Rattle.routes.specs.declared.Found.{Found}
-use Rattle.routes.specs.declared.Found.TheVariants.{Walk, Nothing}
+use Rattle.book.specs.Refusal.{number_of, place_of}
+use Rattle.routes.specs.declared.Plan.{Plan}
 
 -- How many bytes a text has at most, with room to spare.
 abbrev pub longest_text : ℕ
@@ -62,17 +60,15 @@ abbrev pub walk_text : Graph → List ℕ → List ℕ
 walk_text g w = plan_text (weight_of g w) (hops w) w
 
 -- The place of a refusal that has one.
-abbrev pub place_text : Bool → ℕ → List ℕ
-place_text hasPlace place = cond hasPlace (placed ++ decimal place) []
+abbrev pub place_text : Option ℕ → List ℕ
+place_text None = []
+place_text (Some place) = placed ++ decimal place
 
 -- The line of a refusal.
-abbrev pub numbered_text : Number → List ℕ
-numbered_text n = refused ++ decimal n.number ++ place_text n.placed n.place ++ line_feed
-
 abbrev pub refusal_text : Refusal → List ℕ
-refusal_text x = numbered_text (number_of x)
+refusal_text x = refused ++ decimal (number_of x) ++ place_text (place_of x) ++ line_feed
 
 -- The text of what is found; a walk stands in the front of its area.
-abbrev pub found_text : Found → List ℕ → List ℕ
-found_text (Walk weight hops') area = plan_text weight hops' (take (hops' + 1) area)
-found_text Nothing area = none_text
+abbrev pub found_text : Option Plan → List ℕ → List ℕ
+found_text (Some p) area = plan_text p.weight p.hops (take (p.hops + 1) area)
+found_text None area = none_text

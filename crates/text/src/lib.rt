@@ -1,144 +1,138 @@
-// The writing of text: each function writes from the place `at` on, and answers the place after what it wrote.
+// The writing of text: each function adds to what stands in a buffer of any size that has the room.
 #![tactic(auto)]
 
-ghost use Rattle.std.specs.Prelude.{◌∷◌, ◌++◌, ◌+◌, ◌*◌, ◌≤◌, length};
-ghost use Rattle.limits.specs.Limits.{longest};
-ghost use Rattle.text.specs.Text.{cost_text, plan_text, place_text, refusal_text, found_text, longest_text};
+ghost use Rattle.std.specs.Prelude.{◌≡◌, ◌∷◌, ◌++◌, ◌+◌, ◌*◌, ◌<◌, ◌≤◌, length, IfSome};
+ghost use Rattle.arrayvec.specs.ArrayVec.{array_vec_len};
+ghost use Rattle.text.specs.Text.{cost_text, plan_text, refusal_text, found_text};
 ghost use Rattle.text.specs.Text.{decimal as Text-decimal, vertices as Text-vertices, followed as Text-followed};
-ghost use Rattle.text.specs.Writing.{Wrote, Standing};
 
+use arrayvec::ArrayVec;
 use book::Refusal;
-use routes::Found;
+use routes::Plan;
+
+// How many bytes of an input are read at most.
+pub const LONGEST_INPUT: usize = 65_536;
 
 // How many bytes a text has at most, with room to spare.
 pub const LONGEST_TEXT: usize = 8192;
 
-pub fn decimal(n: u64, out: &mut [u8], at: usize) -> usize
-    requires { at + length (Text-decimal n) ≤ length out.old }
-    ensures { Wrote (Text-decimal n) at out.old result out.new }
+// A text that is written; no heap stands behind it.
+pub type Text = ArrayVec<u8, LONGEST_TEXT>;
+
+// The digits of a number. By hand, as all below: that a `write!` answers Ok can't be shown (tried), so it could not promise that the text stands there.
+fn digits(n: u64) -> ArrayVec<u8, 20>
+    ensures { result.items ≡ Text-decimal n }
 {
-    if n < 10 {
-        out[at] = (48 + n) as u8;
-        return at + 1;
-    }
-    let next = decimal(n / 10, out, at);
-    out[next] = (48 + n % 10) as u8;
-    next + 1
+    let mut digits = if n < 10 {
+        ArrayVec::new()
+    } else {
+        digits(n / 10)
+    };
+    digits.push(b'0' + (n % 10) as u8);
+    digits
 }
 
-pub fn word(s: &[u8], out: &mut [u8], at: usize) -> usize
-    requires { at + length s.now ≤ length out.old }
-    ensures { Wrote s.now at out.old result out.new }
+pub fn decimal<const N: usize>(n: u64, out: &mut ArrayVec<u8, N>)
+    requires room { array_vec_len out.old + length (Text-decimal n) ≤ N }
+    ensures written { out.new.items ≡ out.old.items ++ Text-decimal n }
 {
-    let mut i = 0;
-    while i < s.len() {
-        out[at + i] = s[i];
-        i += 1;
-    }
-    at + i
+    word(&digits(n), out);
+}
+
+pub fn word<const N: usize>(s: &[u8], out: &mut ArrayVec<u8, N>)
+    requires room { array_vec_len out.old + length s.now ≤ N }
+    ensures written { out.new.items ≡ out.old.items ++ s.now }
+{
+    out.try_extend_from_slice(s).unwrap();
 }
 
 // A word and a number.
-fn named(s: &[u8], n: u64, out: &mut [u8], at: usize) -> usize
-    requires { at + length s.now + 20 ≤ length out.old }
-    ensures wrote { Wrote (s.now ++ Text-decimal n) at out.old result out.new }
-    ensures upper_bound { result ≤ at + length s.now + 20 }
+fn named<const N: usize>(s: &[u8], n: u64, out: &mut ArrayVec<u8, N>)
+    requires room { array_vec_len out.old + length s.now + 20 ≤ N }
+    ensures written { out.new.items ≡ out.old.items ++ (s.now ++ Text-decimal n) }
+    ensures short { array_vec_len out.new ≤ array_vec_len out.old + length s.now + 20 }
 {
-    let next = word(s, out, at);
-    decimal(n, out, next)
+    word(s, out);
+    decimal(n, out);
 }
 
 // A blank and a vertex.
-fn vertex(v: u8, out: &mut [u8], at: usize) -> usize
-    requires { at + 4 ≤ length out.old }
-    ensures wrote { Wrote (32 ∷ Text-decimal v) at out.old result out.new }
-    ensures upper_bound { result ≤ at + 4 }
+fn vertex<const N: usize>(v: u8, out: &mut ArrayVec<u8, N>)
+    requires room { array_vec_len out.old + 4 ≤ N }
+    ensures written { out.new.items ≡ out.old.items ++ (32 ∷ Text-decimal v) }
+    ensures short { array_vec_len out.new ≤ array_vec_len out.old + 4 }
 {
-    out[at] = b' ';
-    decimal(v as u64, out, at + 1)
+    out.push(b' ');
+    decimal(u64::from(v), out);
 }
 
 // Each vertex after a blank.
-fn followed(walk: &[u8], out: &mut [u8], at: usize) -> usize
-    requires { at + length walk.now * 4 ≤ length out.old }
-    ensures wrote { Wrote (Text-followed walk.now) at out.old result out.new }
-    ensures upper_bound { result ≤ at + length walk.now * 4 }
+fn followed<const N: usize>(walk: &[u8], out: &mut ArrayVec<u8, N>)
+    requires room { array_vec_len out.old + length walk.now * 4 ≤ N }
+    ensures written { out.new.items ≡ out.old.items ++ Text-followed walk.now }
+    ensures short { array_vec_len out.new ≤ array_vec_len out.old + length walk.now * 4 }
 {
-    let mut next = at;
-    let mut i = 0;
-    while i < walk.len() {
-        next = vertex(walk[i], out, next);
-        i += 1;
+    for v in walk {
+        vertex(*v, out);
     }
-    next
 }
 
 // The vertices of a walk, with one blank between.
-fn vertices(walk: &[u8], out: &mut [u8], at: usize) -> usize
-    requires in_bounds { 1 ≤ length walk.now }
-    requires walk_in_bounds { at + length walk.now * 4 ≤ length out.old }
-    ensures wrote { Wrote (Text-vertices walk.now) at out.old result out.new }
-    ensures upper_bound { result ≤ at + length walk.now * 4 }
+fn vertices<const N: usize>(walk: &[u8], out: &mut ArrayVec<u8, N>)
+    requires some_vertex { 1 ≤ length walk.now }
+    requires room { array_vec_len out.old + length walk.now * 4 ≤ N }
+    ensures written { out.new.items ≡ out.old.items ++ Text-vertices walk.now }
+    ensures short { array_vec_len out.new ≤ array_vec_len out.old + length walk.now * 4 }
 {
-    let next = decimal(walk[0] as u64, out, at);
-    followed(&walk[1..], out, next)
+    decimal(u64::from(walk[0]), out);
+    followed(&walk[1..], out);
 }
 
 // The line of a plan's weight and hops.
-pub fn cost_text(weight: u64, hops: usize, out: &mut [u8], at: usize) -> usize
-    requires { at + 57 ≤ length out.old }
-    ensures wrote { Wrote (cost_text weight hops) at out.old result out.new }
-    ensures upper_bound { result ≤ at + 57 }
+pub fn cost_text<const N: usize>(plan: Plan, out: &mut ArrayVec<u8, N>)
+    requires room { array_vec_len out.old + 57 ≤ N }
+    ensures written { out.new.items ≡ out.old.items ++ cost_text plan.weight plan.hops }
+    ensures short { array_vec_len out.new ≤ array_vec_len out.old + 57 }
 {
-    let litres = named(b"LITRES ", weight, out, at);
-    let changes = named(b" CHANGES ", hops as u64, out, litres);
-    word(b"\n", out, changes)
+    named(b"LITRES ", plan.weight, out);
+    named(b" CHANGES ", plan.hops as u64, out);
+    word(b"\n", out);
 }
 
 // The two lines of a plan.
-pub fn plan_text(weight: u64, hops: usize, walk: &[u8], out: &mut [u8]) -> usize
-    requires in_bounds { 1 ≤ length walk.now }
-    requires walk_len_bound { length walk.now ≤ longest }
-    requires longest_text_in_bounds { longest_text ≤ length out.old }
-    ensures { Wrote (plan_text weight hops walk.now) 0 out.old result out.new }
+pub fn plan_text<const N: usize>(plan: Plan, walk: &[u8], out: &mut ArrayVec<u8, N>)
+    requires some_vertex { 1 ≤ length walk.now }
+    requires room { array_vec_len out.old + 58 + length walk.now * 4 ≤ N }
+    ensures written { out.new.items ≡ out.old.items ++ plan_text plan.weight plan.hops walk.now }
+    ensures within { array_vec_len out.new ≤ N }
 {
-    let line = cost_text(weight, hops, out, 0);
-    let last = vertices(walk, out, line);
-    word(b"\n", out, last)
+    cost_text(plan, out);
+    vertices(walk, out);
+    word(b"\n", out);
 }
 
-// The place of a refusal that has one.
-fn place_text(placed: bool, place: usize, out: &mut [u8], at: usize) -> usize
-    requires { at + 24 ≤ length out.old }
-    ensures wrote { Wrote (place_text placed place) at out.old result out.new }
-    ensures upper_bound { result ≤ at + 24 }
+// The line of a refusal, with its place where it has one.
+pub fn refusal_text<const N: usize>(r: Refusal, out: &mut ArrayVec<u8, N>)
+    requires room { array_vec_len out.old + 53 ≤ N }
+    ensures written { out.new.items ≡ out.old.items ++ refusal_text r }
+    ensures within { array_vec_len out.new ≤ N }
 {
-    if placed {
-        return named(b" AT ", place as u64, out, at);
+    named(b"REFUSED ", r.number() as u64, out);
+    if let Some(at) = r.place() {
+        named(b" AT ", at as u64, out);
     }
-    at
-}
-
-// The line of a refusal.
-pub fn refusal_text(r: Refusal, out: &mut [u8]) -> usize
-    requires { longest_text ≤ length out.old }
-    ensures { Wrote (refusal_text r) 0 out.old result out.new }
-{
-    let told = book::number_of(r);
-    let number = named(b"REFUSED ", told.number as u64, out, 0);
-    let place = place_text(told.placed, told.place, out, number);
-    word(b"\n", out, place)
+    word(b"\n", out);
 }
 
 // The text of what is found.
-pub fn found_text(found: Found, walk: &[u8], out: &mut [u8]) -> usize
-    requires standing { Standing found (length walk.now) }
-    requires walk_len_bound { length walk.now ≤ longest }
-    requires longest_text_in_bounds { longest_text ≤ length out.old }
-    ensures { Wrote (found_text found walk.now) 0 out.old result out.new }
+pub fn found_text<const N: usize>(found: Option<Plan>, walk: &[u8], out: &mut ArrayVec<u8, N>)
+    requires standing { IfSome found (λ p. p.hops < length walk.now) }
+    requires room { array_vec_len out.old + 58 + length walk.now * 4 ≤ N }
+    ensures written { out.new.items ≡ out.old.items ++ found_text found walk.now }
+    ensures within { array_vec_len out.new ≤ N }
 {
     match found {
-        Found::Walk { weight, hops } => plan_text(weight, hops, &walk[..hops + 1], out),
-        Found::Nothing => word(b"NONE\n", out, 0),
+        Some(plan) => plan_text(plan, &walk[..plan.hops + 1], out),
+        None => word(b"NONE\n", out),
     }
 }

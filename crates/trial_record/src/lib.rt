@@ -6,10 +6,11 @@ ghost use Rattle.limits.specs.Limits.{most_paths};
 ghost use Rattle.trial_record.specs.Steps.{fresh, with_plan, Recordable, passed_of, failed_of};
 ghost use Rattle.trial_record.specs.Steps.{replanned as Steps-replanned};
 
-use routes::Found;
+use routes::Plan;
 
-// The record of 01. The stage is 0 while a walk (01: line-up) stands, 1 once it has passed, 2 where there is none.
-#[derive(Clone, Copy)]
+// The record of 01. The stage is 0 while a walk (01: line-up) stands, 1 once it has passed, 2 where there is none: a number, since a record
+// with another is refused (9), and so can be held.
+#[derive(Clone, Copy, PartialEq, Eq, Debug)]
 pub struct Record {
     pub stage: usize,
     pub start: u8,
@@ -64,13 +65,13 @@ impl Record {
     }
 
     // The plan anew.
-    pub fn replanned(self, found: Found) -> Record
+    pub fn replanned(self, found: Option<Plan>) -> Record
         requires { Recordable found }
         ensures { result ≡ Steps-replanned self found }
     {
         match found {
-            Found::Walk { weight, hops } => self.standing(weight, hops + 1),
-            Found::Nothing => self.nothing(),
+            Some(plan) => self.standing(plan.weight, plan.hops + 1),
+            None => self.nothing(),
         }
     }
 

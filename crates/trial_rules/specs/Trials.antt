@@ -75,7 +75,7 @@ pub record Valid (g : Graph) (σ : State) : Type 0 where
   -- in stage 2 length and litres are 0
   pub no_walk : σ.rec.stage ≡ 2 → (σ.rec.length ≡ 0) × (σ.rec.litres ≡ 0)
 
--- The tests of both; specs/Tests.antt proves that they decide them.
+-- The tests of both; proofs/Tests.antt proves that they decide them.
 unfoldable pub is_forbidden_set : ℕ → List (List ℕ) → Bool
 is_forbidden_set count F = leb (length F) most_paths && once F && all (is_path count) F
 
@@ -203,24 +203,7 @@ module _ (g : Graph) (plan : Plan) where
   -- Report passed: stage 1, passed becomes 1.
   -- Report failed with a path: it becomes the last known one, failed grows by 1, plan anew.
   abbrev pub step : State → Report → State
-  step σ passed =
-      record {
-        rec =
-            record {
-              stage = 1;
-              start = σ.rec.start;
-              end = σ.rec.end;
-              known = σ.rec.known;
-              first = σ.rec.first;
-              failed = σ.rec.failed;
-              passed = 1;
-              litres = σ.rec.litres;
-              length = σ.rec.length;
-            };
-        forbidden = σ.forbidden;
-        beyond = σ.beyond;
-        area = σ.area;
-      }
+  step σ passed = record σ { rec = record σ.rec { stage = 1; passed = 1 } }
   step σ (failed r) =
       let F = σ.forbidden ++ (r ∷ []) in
       let p = plan F σ.rec.start σ.rec.end in

@@ -1,91 +1,124 @@
 -- A report, by what its tests and planning say.
 use Prim.Native.Nat.{ℕ, suc, ◌+◌, ◌*◌, ◌≤◌, ◌<◌}
-use mathlib.Core.Bool.{true}
+use mathlib.Core.Bool.{Bool, true, false, ◌&&◌}
 use mathlib.Core.List.{List, [], ◌∷◌, ◌++◌, append_assoc}
 use mathlib.Core.Option.{Option, none, some}
 use mathlib.Core.Path.{◌≡◌, refl, sym, ap, ap₂, subst, ◌∙◌}
 use native.Mathlib.Omega.{arith}
+use borrow.Author.Tests.{lt-ltb, le-ltb}
 use lib.Dec.{ltb→lt}
 use lib.ListN.{length, set, take, drop, length-append, length-map, length-set}
 use lib.Seq.{paste, set-append_left, take-append-le, drop-append-le}
+use Rattle.std.specs.Prelude.{Result, Ok, Err}
 use Rattle.lists.specs.Test.{T→true, T_and}
-use Rattle.walks.specs.Graph.{Graph}
 use Rattle.walks.specs.Avoid.{occurs}
 use Rattle.states.specs.Chosen.{chosen}
+use Rattle.book.specs.declared.Loaded.{Loaded}
 use Rattle.book.specs.declared.Refusal.{Refusal}
+use Rattle.book.specs.declared.Refusal.TheVariants.{NotStanding, Full}
 use Rattle.book.specs.Refusal.{refusal_by}
-use Rattle.book.specs.RefusalLaws.{Fails, Hold}
+use Rattle.book.specs.RefusalLaws.{Fails, here, later}
 use Rattle.book.proofs.RefusalLaws.{first-fails, hold→none, first-kept, first-of_append}
 use Rattle.book.specs.Book.{Book, WellFormed, IsPath, is_path, graph}
 use Rattle.book.proofs.BookLaws.{all_map, is_path→IsPath}
 use Rattle.book.proofs.EntryLaws.{length-entries, entries_snoc}
-use Rattle.book.specs.Reading.{accepted}
-use Rattle.book.specs.Tables.{entries, padded}
+use Rattle.book.specs.Reading.{accepted, reading}
+use Rattle.book.specs.Tables.{IsGraph, LoadedAs, entries, padded}
+use Rattle.book.proofs.LoadedLaws.{loaded}
 use Rattle.book.proofs.Padded.{padded-entry}
 use Rattle.rules.specs.Area.{written, blocks, spelled, valid}
-use Rattle.limits.specs.Limits.{area_size, longest}
+use Rattle.limits.specs.Limits.{area_size, longest, most_paths}
 use Rattle.rules.proofs.AreaLaws.{length-blocks}
 use Rattle.rules.proofs.ValidLaws.{written-length, written-valid, written-spells}
-use Rattle.routes.specs.declared.Found.{Found}
 use Rattle.routes.specs.Plan.{Searched}
 use Rattle.trial_record.specs.declared.Record.{Record}
-use Rattle.trials.specs.declared.Reported.{Reported}
-use Rattle.judging.specs.declared.Judged.TheVariants.{Standing, Refused}
-use Rattle.trial_rules.specs.Trials.{Report, passed, failed, State, ForbiddenSet, passed_in, stage_of, litres_of, length_of, step, said_tests}
-use Rattle.trial_record.specs.Steps.{passed_of, failed_of, replanned, Recordable}
-use Rattle.trials.specs.Operations.{answering, reported_as, reporting_of}
+use Rattle.trial_rules.specs.Trials.{Report, passed, failed, State, ForbiddenSet, passed_in, stage_of, litres_of, length_of, step, said_tests, is_named}
+use Rattle.trial_record.specs.Steps.{Found, passed_of, failed_of, replanned, Recordable}
+use Rattle.trials.specs.Operations.{answering, rejected, reported_as, reporting_of, reporting}
 use Rattle.judging.specs.Judging.{state_of, judge_tests, report_tests, judged_as}
 use Rattle.trials.specs.OperationLaws.{TestsPassed, passed_tests}
 use Rattle.trial_rules.proofs.Tests.{set-paths, set-once}
 use Rattle.trial_rules.proofs.Invariant.{one_more}
 use Rattle.trials.specs.Replanning.{Held, held, chosen-planner}
 
+-- ---- the book that was read, and its graph
+pub record InBook (s : List ℕ) (vertices : ℕ) (weights : List ℕ) : Type 0 where
+  pub book : Book
+  pub is : reading s ≡ accepted book
+  pub graph-is : IsGraph book vertices weights
+
+pub in_book : (s : List ℕ) (l : Loaded) → LoadedAs (reading s) (Ok l) → {vertices : ℕ} {weights : List ℕ} → vertices ≡ l.counts.vertices → weights ≡ l.weights
+    → InBook s vertices weights
+in_book s l read v w =
+    let from = loaded s l read in
+    record { book = from.book; is = from.is; graph-is = rw (v, w) from.tables.graph }
+
 -- ---- what the judgement tells
-judged_refused : (o : Option Refusal) (x : Refusal) → Refused x ≡ judged_as o → o ≡ some x
-judged_refused none x e = absurd (let z : ◌≡◌ {A = ℕ} 0 1 = cc in omega arith)
-judged_refused (some y) x e = let same : y ≡ x = cc in ap some same
+judged_refused : (o : Option Refusal) (x : Refusal) → Err x ≡ judged_as o → o ≡ some x
+judged_refused none x e = cc
+judged_refused (some y) x e = cc
 
-judged_standing : (o : Option Refusal) → Standing ≡ judged_as o → o ≡ none
+judged_standing : (o : Option Refusal) → Ok tt ≡ judged_as o → o ≡ none
 judged_standing none e = refl
-judged_standing (some y) e = absurd (let z : ◌≡◌ {A = ℕ} 0 1 = cc in omega arith)
+judged_standing (some y) e = cc
 
-module _ (b : Book) (r : Record) (paths walk : List ℕ) where
-  abbrev g : Graph
-  g = graph b
+module _ {s : List ℕ} {vertices : ℕ} {weights : List ℕ} (h : InBook s vertices weights) (r : Record) (paths walk : List ℕ) where
+  abbrev b : Book
+  b = h.book
 
   abbrev σ : State
   σ = state_of r paths walk
 
+  -- what the judgement answers
+  abbrev Judged : Result Unit Refusal → Type 0
+  Judged v = (c : Book) → IsGraph c vertices weights → v ≡ judged_as (refusal_by (judge_tests r paths walk c))
+
   -- the report is answered as its refusal says
   answered : (ρ : Report) (o : Option Refusal) → refusal_by (report_tests r paths walk ρ b) ≡ o
-      → reported_as o (step g (chosen g) σ ρ) r paths walk ≡ reporting_of (accepted b) r paths walk ρ
-  answered ρ o e = ap (λ y. reported_as y (step g (chosen g) σ ρ) r paths walk) (sym e)
+      → reported_as o (step (graph b) (chosen (graph b)) σ ρ) r paths walk ≡ reporting s r paths walk ρ
+  answered ρ o e =
+      ap (λ y. reported_as y (step (graph b) (chosen (graph b)) σ ρ) r paths walk) (sym e) ∙ sym (ap (λ x. reporting_of x r paths walk ρ) h.is)
 
-  pub refused : (x : Refusal) → Refused x ≡ judged_as (refusal_by (judge_tests r paths walk b)) → (ρ : Report)
-      → answering (Reported.Refused x r) paths walk ≡ reporting_of (accepted b) r paths walk ρ
-  refused x e ρ = answered ρ (some x) (first-kept (judge_tests r paths walk b) (said_tests (graph b) (state_of r paths walk) ρ) x (judged_refused (refusal_by (judge_tests r paths walk b)) x e))
+  pub refused : {x : Refusal} → Judged (Err x) → (ρ : Report) → answering (Err (rejected x r)) paths walk ≡ reporting s r paths walk ρ
+  refused {x} judged ρ =
+      answered ρ (some x) (first-kept (judge_tests r paths walk b) (said_tests (graph b) σ ρ) x (judged_refused _ x (judged b h.graph-is)))
 
-  module _ (stands : Standing ≡ judged_as (refusal_by (judge_tests r paths walk b))) where
+  module _ (stands : Judged (Ok tt)) where
     -- 12 and 13 are left
-    left_over : (ρ : Report) → refusal_by (report_tests r paths walk ρ b) ≡ refusal_by (said_tests (graph b) (state_of r paths walk) ρ)
-    left_over ρ = first-of_append (judge_tests r paths walk b) (said_tests (graph b) (state_of r paths walk) ρ) (judged_standing (refusal_by (judge_tests r paths walk b)) stands)
+    left_over : (ρ : Report) → refusal_by (report_tests r paths walk ρ b) ≡ refusal_by (said_tests (graph b) σ ρ)
+    left_over ρ = first-of_append (judge_tests r paths walk b) (said_tests (graph b) σ ρ) (judged_standing _ (stands b h.graph-is))
 
     -- the standing walk lies within its area
     pub walk-fits : r.length ≤ length walk
     walk-fits = let a = (passed_tests b r paths walk passed (left_over passed)).accepts in omega (arith, a.valid.short, a.area-fits)
 
-    pub has_passed : answering (Reported.Accepted (passed_of r)) paths walk ≡ reporting_of (accepted b) r paths walk passed
+    pub has_passed : answering (Ok (passed_of r)) paths walk ≡ reporting s r paths walk passed
     has_passed =
-        ap (λ l. answering (Reported.Accepted (passed_of r)) l walk) (sym (passed_tests b r paths walk passed (left_over passed)).area-is)
+        ap (λ l. answering (Ok (passed_of r)) l walk) (sym (passed_tests b r paths walk passed (left_over passed)).area-is)
         ∙ answered passed none (left_over passed)
 
     module _ (p : List ℕ) where
-      pub said_fails : {q : Refusal} → Fails (said_tests (graph b) (state_of r paths walk) (failed p)) q
-          → answering (Reported.Refused q r) paths walk ≡ reporting_of (accepted b) r paths walk (failed p)
+      -- 12, as the code tests it
+      abbrev Named : Bool → Type 0
+      Named found = found ≡ (is_path vertices p && occurs p (take r.length walk))
+
+      named-is : {found x : Bool} → Named found → found ≡ x → is_named (graph b) σ (failed p) ≡ x
+      named-is told e = ap (λ n. is_path n p && occurs p (take r.length walk)) (sym h.graph-is.vertices_are) ∙ sym told ∙ e
+
+      said_fails : {q : Refusal} → Fails (said_tests (graph b) σ (failed p)) q
+          → answering (Err (rejected q r)) paths walk ≡ reporting s r paths walk (failed p)
       said_fails {q} f = answered (failed p) (some q) (left_over (failed p) ∙ first-fails f)
 
-      pub ready : Hold (said_tests (graph b) (state_of r paths walk) (failed p)) → refusal_by (report_tests r paths walk (failed p) b) ≡ none
-      ready h = left_over (failed p) ∙ hold→none (said_tests (graph b) (state_of r paths walk) (failed p)) h
+      pub not_named : {found : Bool} → Named found → found ≡ false → answering (Err (rejected NotStanding r)) paths walk ≡ reporting s r paths walk (failed p)
+      not_named told e = said_fails (here (named-is told e))
+
+      pub full : {found : Bool} → Named found → found ≡ true → most_paths ≤ r.known → answering (Err (rejected Full r)) paths walk ≡ reporting s r paths walk (failed p)
+      full told e many = said_fails (later (named-is told e) (here (le-ltb r.known most_paths many)))
+
+      -- nothing is refused
+      pub ready : {found : Bool} → Named found → found ≡ true → r.known < most_paths → refusal_by (report_tests r paths walk (failed p) b) ≡ none
+      ready told e room =
+          left_over (failed p) ∙ hold→none (said_tests (graph b) σ (failed p)) (named-is told e, (lt-ltb r.known most_paths room, tt))
 
 -- ---- an accepted failed report
 paste-front : (d rest s : List ℕ) (at n : ℕ) → at + n ≤ length d → paste (d ++ rest) at s n ≡ paste d at s n ++ rest
@@ -166,7 +199,7 @@ module _ (b : Book) (w : WellFormed b) (r : Record) (paths walk p : List ℕ) (e
       pub walk-short : Recordable f
       walk-short = holds.short
 
-      pub has_failed : answering (Reported.Accepted (replanned (failed_of r) f)) paths' new ≡ reporting_of (accepted b) r paths walk (failed p)
+      pub has_failed : answering (Ok (replanned (failed_of r) f)) paths' new ≡ reporting_of (accepted b) r paths walk (failed p)
       has_failed =
           let q = chosen (graph b) F' r.start r.end in
           let counts : ℕ → ℕ → ℕ → Record =
@@ -184,7 +217,7 @@ module _ (b : Book) (w : WellFormed b) (r : Record) (paths walk p : List ℕ) (e
           } in
           let one-more-failed : r.failed + 1 ≡ suc r.failed = omega arith in
           let none_passed : r.passed ≡ 0 = h.accepts.valid.passed ∙ ap passed_in h.accepts.stage in
-          ap (λ (z : Record). answering (Reported.Accepted z) paths' new)
+          ap (λ (z : Record). answering (Ok z) paths' new)
           (holds.rec-is (failed_of r) ∙ ap (λ n. counts n (r.failed + 1) r.passed) (sym next-length) ∙ ap₂ (counts (length F')) one-more-failed none_passed)
-          ∙ ap₂ (answering (Reported.Accepted (step (graph b) (chosen (graph b)) (state_of r paths walk) (failed p)).rec)) are holds.area-is
-          ∙ answered b r paths walk (failed p) none e
+          ∙ ap₂ (answering (Ok (step (graph b) (chosen (graph b)) (state_of r paths walk) (failed p)).rec)) are holds.area-is
+          ∙ ap (λ y. reported_as y (step (graph b) (chosen (graph b)) (state_of r paths walk) (failed p)) r paths walk) (sym e)

@@ -1,5 +1,5 @@
 -- Laws of a report: what an accepted one has passed, and that a report in trials is a step of theirs.
-use Rattle.std.specs.Prelude.{ℕ, ◌≤◌, ◌&&◌, List, ◌∷◌, ◌++◌, ◌≡◌, T, length, drop}
+use Rattle.std.specs.Prelude.{ℕ, ◌≤◌, ◌&&◌, List, ◌∷◌, ◌++◌, ◌≡◌, T, length, drop, Result, Err}
 use Rattle.std.proofs.Math.Bool.{true}
 use Rattle.std.proofs.Math.Option.{none}
 use Rattle.std.proofs.Math.Path.{refl, ap}
@@ -9,6 +9,7 @@ use Rattle.std.proofs.Math.Dec.{eqb}
 use Rattle.std.proofs.lemmas.List.{length-map}
 use Rattle.lists.specs.Test.{T→true, true→T, and-true}
 use Rattle.walks.specs.Graph.{Graph}
+use Rattle.book.specs.declared.Refusal.{Refusal}
 use Rattle.book.specs.Refusal.{test, refusal_by}
 use Rattle.book.proofs.RefusalLaws.{none→hold}
 use Rattle.book.specs.Book.{Book, graph}
@@ -20,7 +21,8 @@ use Rattle.rules.proofs.ValidLaws.{valid→Valid, written-length, written-valid,
 use Rattle.states.specs.Chosen.{chosen}
 use Rattle.trial_record.specs.declared.Record.{Record}
 use Rattle.trial_rules.specs.Trials.{Report, State, path_area, area_tests, said_tests, ForbiddenSet, is_forbidden_set, is_record, is_valid, Valid, refusal, step}
-use Rattle.trials.specs.Operations.{reported_as, reporting_of}
+use Rattle.trials.specs.declared.Rejected.{Rejected}
+use Rattle.trials.specs.Operations.{rejected, reported_as, reporting_of}
 use Rattle.judging.specs.Judging.{state_of, report_tests}
 use Rattle.trial_rules.proofs.Tests.{forbidden-set, once→Distinct, set-paths, set-once, →is_forbidden_set, Valid→is_valid, is_valid→Valid}
 use Rattle.trial_rules.specs.Accepted.{Accepts}
@@ -105,3 +107,10 @@ module _ (b : Book) (σ : State) (v : Valid (graph b) σ) (ρ : Report) where
       ≡ reported_as (refusal (graph b) σ ρ) (step (graph b) (chosen (graph b)) σ ρ) σ.rec (path_area σ) σ.area
   same_step =
       ap₂ (λ x (τ : State). reported_as x (step (graph b) (chosen (graph b)) τ ρ) σ.rec (path_area σ) σ.area) same-refusal same-state
+
+-- ---- a refused report
+-- Its answer tells what it is refused for.
+pub rejected-for : (x y : Refusal) (r q : Record) → ◌≡◌ {A = Result Record Rejected} (Err (rejected x r)) (Err (rejected y q)) → x ≡ y
+rejected-for x y r q e =
+    let same : rejected x r ≡ rejected y q = cc in
+    ap (λ (z : Rejected). z.refusal) same

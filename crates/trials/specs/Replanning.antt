@@ -1,5 +1,5 @@
 -- What the search finds, as the record and the line-up area hold it.
-use Rattle.std.specs.Prelude.{ℕ, ◌≤◌, ◌<◌, ◌≡◌, refl, List, length}
+use Rattle.std.specs.Prelude.{ℕ, ◌≤◌, ◌<◌, ◌≡◌, refl, List, length, Some, None}
 use Rattle.std.proofs.Common.{sym, ap₂, subst, arith}
 use Rattle.std.proofs.Math.Option.{Option, none, some}
 use Rattle.lists.specs.Test.{T→true, true→T}
@@ -11,13 +11,11 @@ use Rattle.book.specs.Book.{Book, WellFormed, graph}
 use Rattle.book.proofs.BookLaws.{is_path→IsPath}
 use Rattle.rules.specs.Binding.{known}
 use Rattle.rules.proofs.BindingLaws.{known-few, known-paths, known-once}
-use Rattle.routes.specs.declared.Found.{Found}
-use Rattle.routes.specs.declared.Found.TheVariants.{Walk, Nothing}
 use Rattle.routes.specs.Plan.{Searched}
 use Rattle.limits.specs.Limits.{longest}
 use Rattle.trial_record.specs.declared.Record.{Record}
 use Rattle.trial_rules.specs.Trials.{ForbiddenSet, Plan, Planner, Begin, begin_refusal, stage_of, litres_of, length_of, overlaid}
-use Rattle.trial_record.specs.Steps.{with_plan, replanned, Recordable}
+use Rattle.trial_record.specs.Steps.{Found, with_plan, replanned, Recordable}
 use Rattle.trial_rules.proofs.Tests.{once→Distinct, forbidden-set}
 use Rattle.trial_rules.proofs.Plans.{plan-best, plan-none}
 
@@ -65,16 +63,16 @@ module _
   where
     -- What is found is the planner's plan.
     pub held : (f : Found) → Searched g F s t old f new → Held g (plan F s t) f old new
-    held (Walk weight hops) p =
+    held (Some found) p =
         let is : plan F s t ≡ some p.walk = plan-best planner set start end p.best in
         let short : length p.walk ≤ longest = (subst (Decided g F s t) is (planner.plans F s t set start end)).1 in
         let size = hops-length p.walk p.best.feasible.walk in
-        subst (λ q. Held g q (Walk weight hops) old new) (sym is)
+        subst (λ q. Held g q (Some found) old new) (sym is)
         (record {
           rec-is = λ r. ap₂ (with_plan r 0) p.weight_is (omega (arith, p.hops-is));
           area-is = p.area-is;
           short = omega (arith, p.hops-is);
         })
-    held Nothing p =
-        subst (λ q. Held g q Nothing old new) (sym (plan-none planner set start end p.0))
+    held None p =
+        subst (λ q. Held g q None old new) (sym (plan-none planner set start end p.0))
         (record { rec-is = λ r. refl; area-is = p.1; short = tt })

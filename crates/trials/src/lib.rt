@@ -9,16 +9,9 @@ pub use opening::begin;
 pub use report::{report_failed, report_passed};
 use trial_record::Record;
 
-// Begin gives the first record, or is refused.
-#[derive(Clone, Copy)]
-pub enum Begun {
-    Record(Record),
-    Refused(Refusal),
-}
-
-// A report gives the next record, or is refused and hands the record back as it came.
-#[derive(Clone, Copy)]
-pub enum Reported {
-    Accepted(Record),
-    Refused(Refusal, Record),
+// A report that is refused: for what, and the record as it came.
+#[derive(Clone, Copy, PartialEq, Eq, Debug)]
+pub struct Rejected {
+    pub refusal: Refusal,
+    pub record: Record,
 }

@@ -7,47 +7,39 @@ ghost use Rattle.book.specs.Reading.{accepted};
 ghost use Rattle.book.specs.Refusal.{refusal_by};
 ghost use Rattle.book.specs.Tables.{IsGraph};
 ghost use Rattle.limits.specs.Limits.{entry_size, longest_path};
-ghost use Rattle.trials.specs.declared.Reported.TheVariants.{Accepted};
 ghost use Rattle.trial_rules.specs.Trials.{passed, failed};
-ghost use Rattle.trials.specs.Operations.{answering, reporting_of, reporting};
+ghost use Rattle.trials.specs.Operations.{answering, rejected_as, reporting_of, reporting};
 ghost use Rattle.judging.specs.Judging.{report_tests};
 
-use crate::Reported;
-use book::{Answer, Refusal};
-use judging::{Judged, is_named, judge};
-use limits::{AREA, ENTRY, MOST_PATHS, MOST_SETS, NO_ARC, PAIRS};
+use crate::Rejected;
+use book::Refusal;
+use judging::{is_named, judge};
+use limits::{ENTRY, MOST_PATHS};
 use trial_record::Record;
+use walks::{ArcTable, PathArea};
 
 // The standing walk has passed.
-pub fn report_passed(bytes: &[u8], rec: Record, paths: &[u8], walk: &[u8]) -> Reported
-    ensures { answering result paths.now walk.now ≡ reporting bytes.now rec paths.now walk.now passed }
-{
-    let mut weights = [NO_ARC; PAIRS];
-    let mut flags = [0u16; MOST_SETS];
-    let mut owners = [0u8; MOST_PATHS];
-    let mut entries = [0u8; AREA];
-    let read = book::load(bytes, &mut weights, &mut flags, &mut owners, &mut entries);
-    match read {
-        Answer::Refused(r) => Reported::Refused(r, rec),
-        Answer::Read(counts) => accept_passed(&weights, counts.vertices, rec, paths, walk),
-    }
-}
-
-// The same in a book that has been read.
-fn accept_passed(
-    weights: &[u32; PAIRS],
-    vertices: usize,
+pub fn report_passed(
+    bytes: &[u8],
     rec: Record,
     paths: &[u8],
     walk: &[u8],
-) -> Reported
-    requires { (b : Book) × IsGraph b vertices weights.now }
-    ensures { (b : Book) → IsGraph b vertices weights.now → answering result paths.now walk.now ≡ reporting_of (accepted b) rec paths.now walk.now passed }
+) -> Result<Record, Rejected>
+    ensures { answering result paths.now walk.now ≡ reporting bytes.now rec paths.now walk.now passed }
 {
-    match judge(weights, vertices, rec, paths, walk) {
-        Judged::Refused(r) => Reported::Refused(r, rec),
-        Judged::Standing => Reported::Accepted(rec.passed()),
-    }
+    accept_passed(bytes, rec, paths, walk).map_err(|refusal| Rejected {
+        refusal,
+        record: rec,
+    })
+}
+
+// The same, with what it is refused for alone.
+fn accept_passed(bytes: &[u8], rec: Record, paths: &[u8], walk: &[u8]) -> Result<Record, Refusal>
+    ensures { answering (rejected_as rec result) paths.now walk.now ≡ reporting bytes.now rec paths.now walk.now passed }
+{
+    let book = book::load(bytes)?;
+    judge(book.arcs(), rec, paths, walk)?;
+    Ok(rec.passed())
 }
 
 // The standing walk has failed, and a forbidden path that stands in it is named.
@@ -57,75 +49,60 @@ pub fn report_failed(
     paths: &mut [u8],
     walk: &mut [u8],
     named: &[u8],
-) -> Reported
+) -> Result<Record, Rejected>
     ensures { answering result paths.new walk.new ≡ reporting bytes.now rec paths.old walk.old (failed named.now) }
 {
-    let mut weights = [NO_ARC; PAIRS];
-    let mut flags = [0u16; MOST_SETS];
-    let mut owners = [0u8; MOST_PATHS];
-    let mut entries = [0u8; AREA];
-    let read = book::load(bytes, &mut weights, &mut flags, &mut owners, &mut entries);
-    match read {
-        Answer::Refused(r) => Reported::Refused(r, rec),
-        Answer::Read(counts) => accept_failed(&weights, counts.vertices, rec, paths, walk, named),
-    }
+    accept_failed(bytes, rec, paths, walk, named).map_err(|refusal| Rejected {
+        refusal,
+        record: rec,
+    })
 }
 
-// The same in a book that has been read.
+// The same, with what it is refused for alone.
 fn accept_failed(
-    weights: &[u32; PAIRS],
-    vertices: usize,
+    bytes: &[u8],
     rec: Record,
     paths: &mut [u8],
     walk: &mut [u8],
     named: &[u8],
-) -> Reported
-    requires { (b : Book) × IsGraph b vertices weights.now }
-    ensures { (b : Book) → IsGraph b vertices weights.now → answering result paths.new walk.new ≡ reporting_of (accepted b) rec paths.old walk.old (failed named.now) }
+) -> Result<Record, Refusal>
+    ensures { answering (rejected_as rec result) paths.new walk.new ≡ reporting bytes.now rec paths.old walk.old (failed named.now) }
 {
-    match judge(weights, vertices, rec, paths, walk) {
-        Judged::Refused(r) => Reported::Refused(r, rec),
-        Judged::Standing => {
-            let length = rec.length;
-            if !is_named(named, vertices, &walk[..length]) {
-                return Reported::Refused(Refusal::NotStanding, rec);
-            }
-            if MOST_PATHS <= rec.known {
-                return Reported::Refused(Refusal::Full, rec);
-            }
-            Reported::Accepted(replan(weights, vertices, rec, paths, walk, named))
-        }
+    let book = book::load(bytes)?;
+    let arcs = book.arcs();
+    judge(arcs, rec, paths, walk)?;
+    if !is_named(named, arcs.vertices, &walk[..rec.length]) {
+        return Err(Refusal::NotStanding);
     }
+    if MOST_PATHS <= rec.known {
+        return Err(Refusal::Full);
+    }
+    Ok(replan(arcs, rec, paths, walk, named))
 }
 
 // The path becomes the last known one, and there is a plan anew.
-fn replan(
-    weights: &[u32; PAIRS],
-    vertices: usize,
-    rec: Record,
-    paths: &mut [u8],
-    walk: &mut [u8],
-    named: &[u8],
-) -> Record
-    requires { (b : Book) × IsGraph b vertices weights.now × (refusal_by (report_tests rec paths.old walk.old (failed named.now) b) ≡ none) }
-    ensures { (b : Book) → IsGraph b vertices weights.now → refusal_by (report_tests rec paths.old walk.old (failed named.now) b) ≡ none → answering (Accepted result) paths.new walk.new ≡ reporting_of (accepted b) rec paths.old walk.old (failed named.now) }
+fn replan(arcs: ArcTable, rec: Record, paths: &mut [u8], walk: &mut [u8], named: &[u8]) -> Record
+    requires { (b : Book) × IsGraph b arcs.vertices arcs.weights.now × (refusal_by (report_tests rec paths.old walk.old (failed named.now) b) ≡ none) }
+    ensures { (b : Book) → IsGraph b arcs.entry.vertices arcs.entry.weights.now → refusal_by (report_tests rec paths.old walk.old (failed named.now) b) ≡ none → answering (Ok result) paths.new walk.new ≡ reporting_of (accepted b) rec paths.old walk.old (failed named.now) }
 {
     enter(named, rec.known, paths);
     let next = rec.failed();
-    let found = planner::find(
-        weights, vertices, paths, next.known, next.start, next.end, walk,
-    );
+    let area = PathArea {
+        bytes: paths,
+        count: next.known,
+    };
+    let found = planner::find(arcs, area, next.start, next.end, walk);
     next.replanned(found)
 }
 
 // Enters a path into an area behind `known` others.
 fn enter(path: &[u8], known: usize, paths: &mut [u8])
-    requires path_len_bound { length path.now ≤ longest_path }
-    requires entry_size_in_bounds { known * entry_size + entry_size ≤ length paths.old }
+    requires path_short { length path.now ≤ longest_path }
+    requires entry_fits { known * entry_size + entry_size ≤ length paths.old }
     ensures { paths.new ≡ paste (set paths.old (known * entry_size) (length path.now)) (known * entry_size + 1) path.now (length path.now) }
 {
     let at = known * ENTRY;
     let n = path.len();
     paths[at] = n as u8;
-    lists::copy(path, 0, paths, at + 1, n);
+    paths[at + 1..at + 1 + n].copy_from_slice(path);
 }

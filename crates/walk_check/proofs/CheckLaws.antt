@@ -1,6 +1,6 @@
 -- Laws of the check: a walk is clear exactly if it avoids the forbidden set, and a path that is named ends earliest and is the shortest.
 use Prim.Native.Nat.{ℕ, zero, suc, ◌+◌, ◌-◌, ◌≤◌, ◌<◌}
-use Rattle.std.specs.Prelude.{Bool, true, false, cond, ◌&&◌, eqb, leb, length, take, drop}
+use Rattle.std.specs.Prelude.{Bool, true, false, cond, ◌&&◌, eqb, leb, length, take, drop, Some, None}
 use Rattle.std.proofs.Common.{true≢false, ap₂, ◌∙◌, arith, eqb-true, eq-eqb, leb-true, le-leb, length-append, take-append-drop, take_at, drop_at}
 use mathlib.Core.List.{List, ◌++◌, Memᴰ}
 use Rattle.std.proofs.Math.Logic.{by_cases}
@@ -11,7 +11,7 @@ use Rattle.std.proofs.Math.Seq.{slice}
 use Rattle.limits.specs.Limits.{longest_path}
 use Rattle.lists.specs.Test.{T→true, true→T, any→some, some→any, and-true}
 use Rattle.walks.specs.Avoid.{Occurs, Avoids, same}
-use Rattle.walk_check.specs.declared.Checked.TheVariants.{Clear, Occurs as Occurs-at}
+use Rattle.walk_check.specs.declared.Occurrence.{Occurrence}
 use Rattle.lists.specs.Paste.{slice_part}
 use Rattle.walk_check.specs.Checking.{ends_at, some_ends, first_from, named_at, answer_at, check_from, occurrence}
 use Rattle.rules.proofs.Sets.{same_true, true_same, refuted}
@@ -96,23 +96,23 @@ module _ (F : List (List ℕ)) (w : List ℕ) where
       (some→any (λ q. eqb (length q) (length r) && ends_at w e q) m (true→T (eqb (length r) (length r) && ends_at w e r) (ap₂ (λ x y. x && y) (eq-eqb (length r) (length r) refl) h)))
 
   -- ---- clear
-  clear-end : (k e : ℕ) → check_from F w k e ≡ Clear → (j : ℕ) → e ≤ j → j < e + k → named_at F w j ≡ none
+  clear-end : (k e : ℕ) → check_from F w k e ≡ None → (j : ℕ) → e ≤ j → j < e + k → named_at F w j ≡ none
   unfolding check_from
   clear-end zero e h j l b = absurd (omega arith)
   clear-end (suc k) e h j l b = go (named_at F w e) refl h (clear-end k (suc e))
     where
-      go : (o : Option ℕ) → named_at F w e ≡ o → answer_at e o (check_from F w k (suc e)) ≡ Clear
-          → (check_from F w k (suc e) ≡ Clear → (j : ℕ) → suc e ≤ j → j < suc e + k → named_at F w j ≡ none) → named_at F w j ≡ none
+      go : (o : Option ℕ) → named_at F w e ≡ o → answer_at e o (check_from F w k (suc e)) ≡ None
+          → (check_from F w k (suc e) ≡ None → (j : ℕ) → suc e ≤ j → j < suc e + k → named_at F w j ≡ none) → named_at F w j ≡ none
       go none here is later = by_cases (ℕ_discrete e j) (λ q. sym (ap (named_at F w) q) ∙ here) (λ (ne : ¬ (e ≡ j)). later is j (omega arith) (omega arith))
       go (some n) here is later = absurd (let z : ◌≡◌ {A = ℕ} 0 1 = cc in omega arith)
 
-  end-clear : (k e : ℕ) → ((j : ℕ) → e ≤ j → j < e + k → named_at F w j ≡ none) → check_from F w k e ≡ Clear
+  end-clear : (k e : ℕ) → ((j : ℕ) → e ≤ j → j < e + k → named_at F w j ≡ none) → check_from F w k e ≡ None
   unfolding check_from
   end-clear zero e h = refl
   end-clear (suc k) e h = ap (λ o. answer_at e o (check_from F w k (suc e))) (h e (omega arith) (omega arith)) ∙ end-clear k (suc e) (λ j l b. h j (omega arith) (omega arith))
 
   -- A walk that avoids the forbidden set is clear ...
-  pub Avoids→clear : Avoids F w → occurrence F w ≡ Clear
+  pub Avoids→clear : Avoids F w → occurrence F w ≡ None
   Avoids→clear avoids = end-clear (length w) 1 (λ e l b. first-none (some_ends F w e) 7 2 (λ n _. nowhere e n (omega arith)))
     where
       nowhere : (e n : ℕ) → e ≤ length w → some_ends F w e n ≡ false
@@ -122,7 +122,7 @@ module _ (F : List (List ℕ)) (w : List ℕ) where
 
   module _ (sizes : (r : List ℕ) → Memᴰ r F → (2 ≤ length r) × (length r ≤ longest_path)) where
     -- ... and one that is clear avoids it, whose paths have 2 to 8 vertices.
-    pub clear→Avoids : occurrence F w ≡ Clear → Avoids F w
+    pub clear→Avoids : occurrence F w ≡ None → Avoids F w
     clear→Avoids clear r m o =
         let x = occurs→ends w r o in
         let (two, eight) = sizes r m in
@@ -150,12 +150,12 @@ module _ (F : List (List ℕ)) (w : List ℕ) where
       start : p ≡ place - n
       none_before : (j : ℕ) → e ≤ j → j < place → named_at F w j ≡ none
 
-    find_end : (k e p n : ℕ) → e + k ≡ length w + 1 → check_from F w k e ≡ Occurs-at p n → End e p n
+    find_end : (k e p n : ℕ) → e + k ≡ length w + 1 → check_from F w k e ≡ Some (record { place = p; length = n }) → End e p n
     unfolding check_from
     find_end zero e p n total h = absurd (let z : ◌≡◌ {A = ℕ} 0 1 = cc in omega arith)
     find_end (suc k) e p n total h = go (named_at F w e) refl h (find_end k (suc e) p n (omega arith))
       where
-        go : (o : Option ℕ) → named_at F w e ≡ o → answer_at e o (check_from F w k (suc e)) ≡ Occurs-at p n → (check_from F w k (suc e) ≡ Occurs-at p n → End (suc e) p n) → End e p n
+        go : (o : Option ℕ) → named_at F w e ≡ o → answer_at e o (check_from F w k (suc e)) ≡ Some (record { place = p; length = n }) → (check_from F w k (suc e) ≡ Some (record { place = p; length = n }) → End (suc e) p n) → End e p n
         go none here is later =
             let x = later is in
             record {
@@ -167,8 +167,9 @@ module _ (F : List (List ℕ)) (w : List ℕ) where
               none_before = λ j l b. by_cases (ℕ_discrete e j) (λ q. sym (ap (named_at F w) q) ∙ here) (λ (ne : ¬ (e ≡ j)). x.none_before j (omega arith) b);
             }
         go (some m) here is later =
-            let start_is : e - m ≡ p = cc in
-            let size_is : m ≡ n = cc in
+            let same : ◌≡◌ {A = Occurrence} (record { place = e - m; length = m }) (record { place = p; length = n }) = cc in
+            let start_is : e - m ≡ p = ap (λ o. o.place) same in
+            let size_is : m ≡ n = ap (λ o. o.length) same in
             record {
               place = e;
               low = omega arith;
@@ -219,5 +220,5 @@ module _ (F : List (List ℕ)) (w : List ℕ) where
           }
 
     -- 01: the answer is the place and length of the run that ends earliest; of runs with that end, the shortest.
-    pub occurs→Named : (p n : ℕ) → occurrence F w ≡ Occurs-at p n → Named p n
+    pub occurs→Named : (p n : ℕ) → occurrence F w ≡ Some (record { place = p; length = n }) → Named p n
     occurs→Named p n h = named p n (find_end (length w) 1 p n (omega arith) h)

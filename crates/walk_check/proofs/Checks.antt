@@ -1,29 +1,40 @@
--- The check, by what the reading of the book and the tests of area and walk say.
-use Prim.Native.Nat.{ℕ}
-use mathlib.Core.List.{List}
-use mathlib.Core.Option.{Option, none, some}
-use mathlib.Core.Path.{◌≡◌, sym, ap, ◌∙◌}
+-- The check of a walk in a book that has been loaded, by what the tests of area and walk say.
+use Rattle.std.proofs.Common.{◌≡◌, ℕ, ◌≤◌, Bool, true, false, List, length, Ok, Err, sym, ap, ◌∙◌, le-leb}
+use Rattle.std.proofs.Math.Option.{Option, none, some}
+use Rattle.book.specs.declared.Loaded.{Loaded}
 use Rattle.book.specs.declared.Refusal.{Refusal}
-use Rattle.book.specs.Book.{Book}
-use Rattle.book.specs.Reading.{accepted, refused, reading}
+use Rattle.book.specs.declared.Refusal.TheVariants.{Invalid, NotAWalk}
+use Rattle.book.specs.Book.{graph}
+use Rattle.book.specs.Reading.{reading}
 use Rattle.book.specs.Refusal.{refusal_by}
-use Rattle.book.specs.RefusalLaws.{Fails, Hold}
+use Rattle.book.specs.RefusalLaws.{Fails, here, later}
 use Rattle.book.proofs.RefusalLaws.{first-fails, hold→none}
-use Rattle.walk_check.specs.declared.Checked.TheVariants.{Refused}
-use Rattle.rules.specs.Area.{spelled}
-use Rattle.walk_check.specs.Checking.{occurrence}
-use Rattle.walk_check.specs.Checking.{checked_unless, check_tests, checking_of, checking}
+use Rattle.book.specs.Tables.{LoadedAs}
+use Rattle.book.specs.Loaded.{LoadedFrom}
+use Rattle.book.proofs.LoadedLaws.{loaded}
+use Rattle.limits.specs.Limits.{area_size}
+use Rattle.rules.specs.Area.{spelled, valid}
+use Rattle.walk_check.specs.Checking.{occurrence, checkable, checked_unless, check_tests, checking_of, checking}
 
-module _ (s area : List ℕ) (count : ℕ) (w : List ℕ) where
-  pub check-refused : (q : Refusal) → reading s ≡ refused q → Refused q ≡ checking s area count w
-  check-refused q is = sym (ap (λ r. checking_of r area count w) is)
+module _ (s area : List ℕ) (count : ℕ) (w : List ℕ) (l : Loaded) (held : LoadedAs (reading s) (Ok l)) where
+  abbrev pub from : LoadedFrom s l
+  from = loaded s l held
 
-  module _ (b : Book) (is : reading s ≡ accepted b) where
-    decided : (o : Option Refusal) → refusal_by (check_tests area count w b) ≡ o → checked_unless o (occurrence (spelled count area) w) ≡ checking s area count w
-    decided o e = sym (ap (λ r. checking_of r area count w) is ∙ ap (λ o. checked_unless o (occurrence (spelled count area) w)) e)
+  decided : (o : Option Refusal) → refusal_by (check_tests area count w from.book) ≡ o → checked_unless o (occurrence (spelled count area) w) ≡ checking s area count w
+  decided o e = sym (ap (λ r. checking_of r area count w) from.is ∙ ap (λ o. checked_unless o (occurrence (spelled count area) w)) e)
 
-    pub check-fails : {q : Refusal} → Fails (check_tests area count w b) q → Refused q ≡ checking s area count w
-    check-fails {q} f = decided (some q) (first-fails f)
+  fails : {q : Refusal} → Fails (check_tests area count w from.book) q → Err q ≡ checking s area count w
+  fails {q} f = decided (some q) (first-fails f)
 
-    pub check_done : Hold (check_tests area count w b) → occurrence (spelled count area) w ≡ checking s area count w
-    check_done h = decided none (hold→none (check_tests area count w b) h)
+  module _ (enough : area_size ≤ length area) (x : Bool) (validity : valid l.counts.vertices area count ≡ x) where
+    valid-is : valid from.book.count area count ≡ x
+    valid-is = ap (λ n. valid n area count) (sym from.tables.graph.vertices_are) ∙ validity
+
+    pub check-invalid : x ≡ false → Err Invalid ≡ checking s area count w
+    check-invalid e = fails (later (le-leb _ _ enough) (here (valid-is ∙ e)))
+
+    pub check-no-walk : x ≡ true → checkable (graph from.book) w ≡ false → Err NotAWalk ≡ checking s area count w
+    check-no-walk e walked = fails (later (le-leb _ _ enough) (later (valid-is ∙ e) (here walked)))
+
+    pub check-done : x ≡ true → checkable (graph from.book) w ≡ true → Ok (occurrence (spelled count area) w) ≡ checking s area count w
+    check-done e walked = decided none (hold→none (check_tests area count w from.book) (le-leb _ _ enough, (valid-is ∙ e, (walked, tt))))

@@ -1,5 +1,5 @@
 -- What the check says of the paths of an area, and after a bind.
-use Rattle.std.specs.Prelude.{ℕ, ◌≤◌, ◌≡◌, refl, leb, length}
+use Rattle.std.specs.Prelude.{ℕ, ◌≤◌, ◌≡◌, refl, leb, length, None, Ok}
 use mathlib.Core.List.Memᴰ
 use mathlib.Core.List.{List, [], ◌∷◌, Memᴰ}
 use Rattle.std.proofs.Common.{⊎_elim, ap, ap₂, ◌∙◌, arith, le-leb}
@@ -10,7 +10,6 @@ use Rattle.book.specs.Refusal.{Test, test, refusal_by}
 use Rattle.book.proofs.RefusalLaws.{none→hold, hold→none, first-of_append}
 use Rattle.book.specs.Book.{Book, All, IsPath, graph}
 use Rattle.book.specs.Reading.{Reading, reading, refusal_of}
-use Rattle.walk_check.specs.declared.Checked.TheVariants.{Clear}
 use Rattle.rules.specs.Area.{spelled, valid}
 use Rattle.limits.specs.Limits.{area_size, longest_path}
 use Rattle.walk_check.specs.Checking.{checkable, occurrence, checked_unless, check_tests, checking_of, checking}
@@ -30,22 +29,22 @@ module _ (s area : List ℕ) (count : ℕ) (w : List ℕ) where
   check_refusal = refusal_of (reading s) (check_tests area count w)
 
   -- A walk that the check finds clear avoids the forbidden paths of the area ...
-  pub clear-avoids : checking s area count w ≡ Clear → Avoids (spelled count area) w
+  pub clear-avoids : checking s area count w ≡ Ok None → Avoids (spelled count area) w
   clear-avoids e = go (reading s) e
     where
-      by_tests : (b : Book) (o : Option Refusal) → refusal_by (check_tests area count w b) ≡ o → checked_unless o (occurrence (spelled count area) w) ≡ Clear → Avoids (spelled count area) w
+      by_tests : (b : Book) (o : Option Refusal) → refusal_by (check_tests area count w b) ≡ o → checked_unless o (occurrence (spelled count area) w) ≡ Ok None → Avoids (spelled count area) w
       by_tests b (some q) is h = absurd (let z : ◌≡◌ {A = ℕ} 0 1 = cc in omega arith)
       by_tests b none is h =
           let ok = (none→hold (check_tests area count w b) is).1.0 in
-          clear→Avoids (spelled count area) w (sizes b.count (spelled count area) (valid→Valid b.count area count ok).paths) h
+          clear→Avoids (spelled count area) w (sizes b.count (spelled count area) (valid→Valid b.count area count ok).paths) (let clear : occurrence (spelled count area) w ≡ None = cc in clear)
 
-      go : (r : Reading) → checking_of r area count w ≡ Clear → Avoids (spelled count area) w
+      go : (r : Reading) → checking_of r area count w ≡ Ok None → Avoids (spelled count area) w
       go (Reading.accepted b) h = by_tests b (refusal_by (check_tests area count w b)) refl h
       go (Reading.refused q) h = absurd (let z : ◌≡◌ {A = ℕ} 0 1 = cc in omega arith)
 
   -- ... and one that avoids them is found clear, where nothing is refused.
-  pub avoids-clear : check_refusal ≡ none → Avoids (spelled count area) w → checking s area count w ≡ Clear
-  avoids-clear e h = ap (λ o. checked_unless o (occurrence (spelled count area) w)) e ∙ Avoids→clear (spelled count area) w h
+  pub avoids-clear : check_refusal ≡ none → Avoids (spelled count area) w → checking s area count w ≡ Ok None
+  avoids-clear e h = ap (λ o. checked_unless o (occurrence (spelled count area) w)) e ∙ ap Ok (Avoids→clear (spelled count area) w h)
 
 -- With the area and the count of an accepted bind only 10 is refused, and the check is that of the known paths.
 pub bind-then-check : (s : List ℕ) (flags : ℕ) (area : List ℕ) (F : List (List ℕ)) (f : Filled s flags area F) (w : List ℕ)

@@ -1,3 +1,4 @@
+pub mod Pairs
 pub mod Walks
 pub mod Searched
 pub mod Checks

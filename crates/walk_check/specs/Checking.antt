@@ -1,5 +1,6 @@
 -- The check of a walk (01: of a line-up): clear, or the forbidden path that ends earliest and, of those with that end, the shortest.
-use Rattle.std.specs.Prelude.{ℕ, zero, suc, ◌-◌, Bool, cond, ◌&&◌, List, [], ◌∷◌, eqb, leb, length}
+use Rattle.std.specs.Prelude
+use Rattle.std.specs.Prelude.{ℕ, zero, suc, ◌-◌, Bool, cond, ◌&&◌, List, [], ◌∷◌, eqb, leb, length, Some, None, Result, Ok, Err}
 use Rattle.std.proofs.Math.Option.{Option, none, some}
 use Rattle.std.proofs.Math.Seq.{slice}
 use Rattle.limits.specs.Limits.{longest, area_size}
@@ -12,8 +13,7 @@ use Rattle.book.specs.Refusal.{Test, test}
 use Rattle.book.specs.Book.{Book, graph}
 use Rattle.book.specs.Reading.{Reading, reading, refusal_of}
 use Rattle.rules.specs.Area.{spelled, valid}
-use Rattle.walk_check.specs.declared.Checked.{Checked}
-use Rattle.walk_check.specs.declared.Checked.TheVariants.{Clear, Occurs}
+use Rattle.walk_check.specs.declared.Occurrence.{Occurrence}
 
 -- The path r stands in w and ends right before place e.
 abbrev pub ends_at : List ℕ → ℕ → List ℕ → Bool
@@ -33,16 +33,17 @@ abbrev pub named_at : List (List ℕ) → List ℕ → ℕ → Option ℕ
 named_at F w e = first_from (some_ends F w e) 7 2
 
 -- The path that is named at e, or else what the later ends answer.
-abbrev pub answer_at : ℕ → Option ℕ → Checked → Checked
+abbrev pub answer_at : ℕ → Option ℕ → Prelude.Option Occurrence → Prelude.Option Occurrence
 answer_at e none later = later
-answer_at e (some n) later = Occurs (e - n) n
+answer_at e (some n) later = Some (record { place = e - n; length = n })
 
 -- The answer for k ends from e on: the first with a path that ends there.
-unfoldable pub check_from : List (List ℕ) → List ℕ → ℕ → ℕ → Checked
-check_from F w zero e = Clear
+unfoldable pub check_from : List (List ℕ) → List ℕ → ℕ → ℕ → Prelude.Option Occurrence
+check_from F w zero e = None
 check_from F w (suc k) e = answer_at e (named_at F w e) (check_from F w k (suc e))
 
-abbrev pub occurrence : List (List ℕ) → List ℕ → Checked
+-- The answer for a walk: none where it is clear.
+abbrev pub occurrence : List (List ℕ) → List ℕ → Prelude.Option Occurrence
 occurrence F w = check_from F w (length w) 1
 
 -- 10: what is to be checked is a walk of the book's graph, and not too long.
@@ -50,16 +51,16 @@ abbrev pub checkable : Graph → List ℕ → Bool
 checkable g w = leb (length w) longest && is_walk g w
 
 -- The operation: what it is refused for, and what it answers.
-abbrev pub checked_unless : Option Refusal → Checked → Checked
-checked_unless none c = c
-checked_unless (some r) c = Checked.Refused r
+abbrev pub checked_unless : Option Refusal → Prelude.Option Occurrence → Result (Prelude.Option Occurrence) Refusal
+checked_unless none c = Ok c
+checked_unless (some r) c = Err r
 
 abbrev pub check_tests : List ℕ → ℕ → List ℕ → Book → List Test
 check_tests area count w b =
     test 8 (leb area_size (length area)) ∷ test 9 (valid b.count area count) ∷ test 10 (checkable (graph b) w) ∷ []
 
-abbrev pub checking_of : Reading → List ℕ → ℕ → List ℕ → Checked
+abbrev pub checking_of : Reading → List ℕ → ℕ → List ℕ → Result (Prelude.Option Occurrence) Refusal
 checking_of r area count w = checked_unless (refusal_of r (check_tests area count w)) (occurrence (spelled count area) w)
 
-abbrev pub checking : List ℕ → List ℕ → ℕ → List ℕ → Checked
+abbrev pub checking : List ℕ → List ℕ → ℕ → List ℕ → Result (Prelude.Option Occurrence) Refusal
 checking s area count w = checking_of (reading s) area count w

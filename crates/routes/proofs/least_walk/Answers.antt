@@ -1,7 +1,7 @@
 -- What was measured guides, has room for its walk, and leads to the best one.
 use Rattle.std.proofs.Common.{arith}
 use Rattle.routes.proofs.Guiding.{entry-near}
-use Rattle.routes.proofs.Plan.{measured_guiding, measured_start, start-short, searched-none, searched-walk}
+use Rattle.routes.proofs.Planned.{measured_guiding, measured_start, start-short, searched-none, searched-walk}
 use Rattle.routes.proofs.least_walk.Goals as goal
 
 pub returns-then-here-eq-INF : goal.returns-then-here-eq-INF
@@ -10,11 +10,11 @@ returns-then-here-eq-INF c g F t m clear = searched-none m c.args.start c.requir
 pub walk-count-requires : goal.walk-count-requires
 walk-count-requires c =
     let (g, F, t, m) = c.requires.measured in
-    let start = measured_start m c.args.start c.requires.start_below in
     let near = entry-near (measured_guiding m) c.args.start c.if-here-eq-INF.false in
     record {
       guiding = measured_guiding m;
-      start_below = (c.requires.start_below, start);
+      start_below = c.requires.start_below;
+      start_within = measured_start m c.args.start c.requires.start_below;
       start_near = near;
       area_room = omega (arith, start-short m c.args.start c.requires.start_below near);
     }

@@ -1,16 +1,20 @@
 -- A turn writes the next vertex and goes to the state after it.
-use Rattle.std.proofs.Common.{ℕ, arith, length-set}
-use Rattle.routes.proofs.Walking.{walking_start, walking_next, walking_done}
+use Rattle.std.proofs.Common.{arith}
+use Rattle.routes.proofs.Guiding.{node}
+use Rattle.routes.proofs.Walking.{walking_start, walking_turn, walk-length, walking_done}
 use Rattle.routes.proofs.walk.Goals as goal
 
-pub loop-k-init : goal.loop-k-init
-loop-k-init c = walking_start _ _ _ _ _ _ _ _ (omega arith) (omega arith) (omega arith)
+pub loop-vertex-init : goal.loop-vertex-init
+loop-vertex-init c = walking_start _ _ _ _ _ _ _ _ c.requires.start_within c.requires.start_near
 
-pub loop-k-preserved : goal.loop-k-preserved
-loop-k-preserved c = rw c.next-v.ensures (walking_next _ _ _ _ _ _ _ _ c.requires.guiding c.loop-k.invariant (omega arith) (omega (arith, length-set {A = ℕ})))
+pub next-v-requires : goal.next-v-requires
+next-v-requires c = node c.requires.guiding c.loop-vertex.q c.loop-vertex.invariant.state-below
+
+pub loop-vertex-preserved : goal.loop-vertex-preserved
+loop-vertex-preserved c = rw c.next-v.ensures (walking_turn _ _ _ _ _ _ _ _ c.loop-vertex.vertex-index c.requires.guiding c.loop-vertex.invariant (omega arith) (omega arith))
 
 pub returns-clause-counted : goal.returns-clause-counted
-returns-clause-counted c = (walking_done _ _ _ _ _ _ _ _ c.loop-k.invariant (omega arith)).0
+returns-clause-counted c = walk-length _ _ _ _ _ _ _
 
 pub returns-clause-area_after : goal.returns-clause-area_after
-returns-clause-area_after c = (walking_done _ _ _ _ _ _ _ _ c.loop-k.invariant (omega arith)).1
+returns-clause-area_after c = walking_done _ _ _ _ _ _ _ c.args.area.now c.requires.area_room c.loop-vertex.invariant (omega arith)

@@ -1,6 +1,7 @@
 -- What was built and measured is what was asked for.
 use Rattle.std.proofs.Common.{arith}
-use Rattle.routes.proofs.Plan.{prepared-fits}
+use Rattle.routes.proofs.Planned.{prepared-fits}
+use Rattle.product.specs.Base.{is_towards, vertex_of}
 use Rattle.measuring.specs.Work.{front-prepared, front-edges, back_measured}
 use Rattle.measuring.proofs.Work.measure.Goals as goal
 
@@ -8,7 +9,9 @@ pub distances-requires-clause-rows : goal.distances-requires-clause-rows
 distances-requires-clause-rows g c =
     let given = c.requires.given in
     let (graph, count-is, weighed) = c.requires.weighed in
-    prepared-fits (front-prepared given.spells (c.build-states.ensures.built given.paths given.spells given.bounded) c.args.self.now.table c.requires.room.entries count-is weighed)
+    let of = c.of-product.ensures in
+    rw (of.vertices, of.weights, of.steps, of.blocked, of.latest)
+    (prepared-fits (front-prepared given.spells (c.build-states.ensures.built given.paths given.spells given.bounded) c.args.self.now.table c.requires.room.entries count-is weighed))
 
 pub distances-requires-clause-edge_room : goal.distances-requires-clause-edge_room
 distances-requires-clause-edge_room g c =
@@ -17,4 +20,7 @@ distances-requires-clause-edge_room g c =
 
 pub returns-clause-measured_all : goal.returns-clause-measured_all
 returns-clause-measured_all g c graph F count-is weighed spells bounded =
-    back_measured spells (c.build-states.ensures.built F spells bounded) c.args.self.now.table c.requires.room.entries c.distances.new.table c.distances.auto.table count-is weighed _ _ c.distances.ensures
+    let of = c.of-product.ensures in
+    back_measured spells (c.build-states.ensures.built F spells bounded) c.args.self.now.table c.requires.room.entries c.distances.new.table c.distances.auto.table count-is weighed
+    (is_towards c.args.goal) (vertex_of c.args.goal)
+    (rw (of.vertices, of.weights, of.steps, of.blocked, of.latest) at c.distances.ensures)

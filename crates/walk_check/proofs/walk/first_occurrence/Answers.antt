@@ -1,72 +1,88 @@
 -- At each turn of each loop, the answer for the whole is the answer for what is left.
-use Rattle.std.proofs.Common.{◌≡◌, ◌+◌, ◌-◌, ◌*◌, ◌≤◌, length, get_or, sym, ◌∙◌, arith}
-use Rattle.limits.specs.Limits.{entry_size}
+use Rattle.std.proofs.Common.{◌≡◌, ◌+◌, ◌-◌, take, drop, refl, sym, subst, ◌∙◌, arith, None}
+use Rattle.std.proofs.Math.Option.{none}
 use Rattle.rules.specs.Area.{spelled}
-use Rattle.rules.proofs.Parts.{parts_past, parts-differ, parts_next}
-use Rattle.walk_check.specs.Checking.{some_ends}
-use Rattle.walk_check.proofs.Searched.{first-here, first-later, ends_past, ends-here, ends-later, lengths_past, lengths_done, paths-start, paths_past, other_length, differs, stands}
+use Rattle.walk_check.specs.Checking.{some_ends, named_at}
+use Rattle.walk_check.proofs.Searched.{Held, first-here, first-later, ends_past, ends-here, ends-later, lengths_past, paths-start, paths_past, other_length, differs, stands, one-more}
 use Rattle.walk_check.proofs.walk.first_occurrence.Goals as goal
-use Rattle.walk_check.proofs.walk.first_occurrence.Goals.{then-loop-n-test+else-n-end, else-loop-n-test}
+use Rattle.walk_check.proofs.walk.first_occurrence.Goals.{Left-loop-length, else-loop-length-test, then-loop-length-test+else-paths-test+else-length-length-end}
 
 pub paths-init : goal.paths-init
 paths-init c =
-    (omega arith, c.loop-n.invariant.2, paths-start c.args.area.now c.args.count c.args.walk.now c.requires.entry_size_in_bounds c.requires.all c.ends.end c.loop-n.n)
+    let held : Held c.args.paths.bytes.now c.args.paths.count = record { within = c.requires.within; short = c.requires.short } in
+    (c.loop-length.invariant.0, paths-start held c.args.walk.now c.ends.end c.loop-length.length)
 
-pub paths-preserved-then-wide-n : goal.paths-preserved-then-wide-n
-paths-preserved-then-wide-n c =
-    let passed = other_length c.args.area.now c.args.count c.args.walk.now c.requires.entry_size_in_bounds c.requires.all c.ends.end c.loop-n.n c.paths.k c.paths-test.true (λ e. c.if-wide-n.true (c.wide.ensures.value ∙ e)) in
-    (omega arith, c.paths.invariant.1, sym passed ∙ c.paths.invariant.2)
+pub paths-preserved-then-from-length : goal.paths-preserved-then-from-length
+paths-preserved-then-from-length c =
+    let held : Held c.args.paths.bytes.now c.args.paths.count = record { within = c.requires.within; short = c.requires.short } in
+    let passed = other_length held c.args.walk.now c.ends.end c.loop-length.length c.paths-test.true c.entry-entry.ensures.bytes (λ q. c.if-from-length.true (c.from.ensures ∙ q)) in
+    (c.paths.invariant.0, sym passed ∙ c.paths.invariant.1)
 
--- a path of the length that is tried, held against the walk: it lies within the area, and its place within the walk
 pub paths-preserved : goal.paths-preserved
 paths-preserved c =
-    let length-is : get_or c.args.area.now (c.paths.k * entry_size) 0 ≡ c.loop-n.n = sym c.wide.ensures.value ∙ c.if-wide-n.false in
-    let in-area : c.paths.k * entry_size + 1 + c.loop-n.n ≤ length c.args.area.now = omega arith in
-    let ends : c.ends.end ≤ length c.args.walk.now = omega arith in
-    let in-walk : c.ends.end - c.loop-n.n + c.loop-n.n ≤ length c.args.walk.now = omega arith in
-    let differ = parts-differ c.args.area.now c.args.walk.now (c.paths.k * entry_size + 1) (c.ends.end - c.loop-n.n) c.loop-n.n in-area in-walk c.loop-i.i c.loop-i-test.true c.if-area-at.true in
-    let passed = differs c.args.area.now c.args.count c.args.walk.now c.requires.entry_size_in_bounds c.requires.all c.ends.end c.loop-n.n c.paths.k c.paths-test.true length-is c.if-n-end.true ends (sym c.loop-i.invariant.1 ∙ differ) in
-    (omega arith, c.paths.invariant.1, sym passed ∙ c.paths.invariant.2)
+    let held : Held c.args.paths.bytes.now c.args.paths.count = record { within = c.requires.within; short = c.requires.short } in
+    let w = c.args.walk.now in
+    let passed = differs held w c.ends.end c.loop-length.length c.paths-test.true c.entry-entry.ensures.bytes (sym c.from.ensures ∙ c.if-from-length.false) (omega arith) (omega arith) c.loop-i-test.true c.if-entry-i.true in
+    (c.paths.invariant.0, sym passed ∙ c.paths.invariant.1)
+
+-- before the first vertex nothing is held against the walk yet
+pub loop-i-init : goal.loop-i-init
+loop-i-init c = refl
 
 pub loop-i-preserved : goal.loop-i-preserved
 loop-i-preserved c =
-    let in-area : c.paths.k * entry_size + 1 + c.loop-n.n ≤ length c.args.area.now = omega arith in
-    let in-walk : c.ends.end - c.loop-n.n + c.loop-n.n ≤ length c.args.walk.now = omega arith in
-    let agree = parts_next c.args.area.now c.args.walk.now (c.paths.k * entry_size + 1) (c.ends.end - c.loop-n.n) c.loop-n.n in-area in-walk c.loop-i.i c.loop-i-test.true c.if-area-at.false in
-    (omega arith, sym agree ∙ c.loop-i.invariant.1)
+    one-more c.entry-entry.result.now c.args.walk.now 1 (c.ends.end - c.loop-length.length) c.loop-i.i (omega arith) (omega arith) c.loop-i.invariant c.if-entry-i.false
 
-pub loop-n-preserved : goal.loop-n-preserved
-loop-n-preserved c =
-    let missed = sym c.paths.invariant.2 ∙ paths_past c.args.area.now c.args.count c.args.walk.now c.requires.entry_size_in_bounds c.requires.all c.ends.end c.loop-n.n c.paths.k c.paths-test.false in
-    let later = first-later (some_ends (spelled c.args.count c.args.area.now) c.args.walk.now c.ends.end) c.loop-n.n (omega arith) missed in
-    (omega arith, omega arith, c.paths.invariant.1, sym later ∙ c.loop-n.invariant.3)
+pub loop-length-preserved : goal.loop-length-preserved
+loop-length-preserved c =
+    let held : Held c.args.paths.bytes.now c.args.paths.count = record { within = c.requires.within; short = c.requires.short } in
+    let w = c.args.walk.now in
+    let e = c.ends.end in
+    let n = c.loop-length.length in
+    let missed = sym c.paths.invariant.1 ∙ paths_past held w e n c.paths-test.false in
+    let later = first-later (some_ends (spelled c.args.paths.count c.args.paths.bytes.now) w e) n (omega arith) missed in
+    (c.paths.invariant.0, sym later ∙ c.loop-length.invariant.1)
+
+-- where all lengths have been tried, no path ends here
+nowhere : (c : Left-loop-length) → (c.loop-length-test.first ≡ None) × (named_at (spelled c.args.paths.count c.args.paths.bytes.now) c.args.walk.now c.ends.end ≡ none)
+nowhere c =
+    let held : Held c.args.paths.bytes.now c.args.paths.count = record { within = c.requires.within; short = c.requires.short } in
+    let known = spelled c.args.paths.count c.args.paths.bytes.now in
+    let w = c.args.walk.now in
+    let e = c.ends.end in
+    let n = c.loop-length.length in
+    elim c.loop-length-test.branch [
+      | else-loop-length-test h ↦ (h.first-is ∙ c.loop-length.invariant.0, sym c.loop-length.invariant.1 ∙ lengths_past known w e n (omega arith))
+      | then-loop-length-test+else-paths-test+else-length-length-end h ↦
+          let missed = sym h.paths.invariant.1 ∙ paths_past held w e n h.paths-test.false in
+          (h.first-is ∙ h.paths.invariant.0, sym c.loop-length.invariant.1 ∙ first-later (some_ends known w e) n (omega arith) missed ∙ lengths_past known w e (n + 1) (omega arith))
+    ]
 
 pub ends-preserved : goal.ends-preserved
 ends-preserved c =
-    let known = spelled c.args.count c.args.area.now in
-    let walk = c.args.walk.now in
-    let within : c.ends.end ≤ length walk = omega arith in
-    let none-named =
-    sym c.loop-n.invariant.3
-    ∙ elim c.loop-n-test.branch [
-      | then-loop-n-test+else-n-end w ↦ lengths_past known walk c.ends.end c.loop-n.n w.if-n-end.false
-      | else-loop-n-test w ↦ lengths_done known walk c.ends.end c.loop-n.n w.loop-n-test.false
-    ] in
-    (omega arith, omega arith, c.loop-n.invariant.2, sym (ends-later known walk c.ends.end within none-named) ∙ c.ends.invariant.3)
+    let here = nowhere (goal.at.ends-preserved c).Left-loop-length in
+    (here.0, sym (ends-later (spelled c.args.paths.count c.args.paths.bytes.now) c.args.walk.now c.ends.end c.ends-test.true here.1) ∙ c.ends.invariant.1)
 
-pub returns-after-ends : goal.returns-after-ends
-returns-after-ends c =
-    c.ends.invariant.2 ∙ sym (ends_past (spelled c.args.count c.args.area.now) c.args.walk.now c.ends.end c.ends-test.false) ∙ c.ends.invariant.3
+pub returns : goal.returns
+returns c = c.ends.invariant.0 ∙ sym (ends_past (spelled c.args.paths.count c.args.paths.bytes.now) c.args.walk.now c.ends.end c.ends-test.false) ∙ c.ends.invariant.1
 
-pub returns-after-loop-i : goal.returns-after-loop-i
-returns-after-loop-i c =
-    let known = spelled c.args.count c.args.area.now in
-    let walk = c.args.walk.now in
-    let length-is : get_or c.args.area.now (c.paths.k * entry_size) 0 ≡ c.loop-n.n = sym c.wide.ensures.value ∙ c.if-wide-n.false in
-    let in-area : c.paths.k * entry_size + 1 + c.loop-n.n ≤ length c.args.area.now = omega arith in
-    let ends : c.ends.end ≤ length walk = omega arith in
-    let in-walk : c.ends.end - c.loop-n.n + c.loop-n.n ≤ length walk = omega arith in
-    let agree = parts_past c.args.area.now walk (c.paths.k * entry_size + 1) (c.ends.end - c.loop-n.n) c.loop-n.n in-area in-walk c.loop-i.i c.loop-i-test.false in
-    let found = stands c.args.area.now c.args.count walk c.requires.entry_size_in_bounds c.requires.all c.ends.end c.loop-n.n c.paths.k c.paths-test.true length-is c.if-n-end.true ends (sym c.loop-i.invariant.1 ∙ agree) in
-    let named = first-here (some_ends known walk c.ends.end) c.loop-n.n (omega arith) (sym c.paths.invariant.2 ∙ found) in
-    sym (ends-here known walk c.ends.end ends c.loop-n.n (sym c.loop-n.invariant.3 ∙ named)) ∙ c.ends.invariant.3
+pub returns-2 : goal.returns-2
+returns-2 c =
+    let known = spelled c.args.paths.count c.args.paths.bytes.now in
+    let w = c.args.walk.now in
+    let e = c.ends.end in
+    let here = nowhere (goal.at.returns-2 c).Left-loop-length in
+    here.0 ∙ sym (ends-later known w e c.ends-test.true here.1 ∙ ends_past known w (e + 1) (omega arith)) ∙ c.ends.invariant.1
+
+pub returns-else-from-length : goal.returns-else-from-length
+returns-else-from-length c =
+    let held : Held c.args.paths.bytes.now c.args.paths.count = record { within = c.requires.within; short = c.requires.short } in
+    let known = spelled c.args.paths.count c.args.paths.bytes.now in
+    let w = c.args.walk.now in
+    let e = c.ends.end in
+    let n = c.loop-length.length in
+    let whole : c.loop-i.i ≡ n = omega arith in
+    let match = subst (λ m. take m (drop 1 c.entry-entry.result.now) ≡ take m (drop (e - n) w)) whole c.loop-i.invariant in
+    let found = stands held w e n c.paths-test.true c.entry-entry.ensures.bytes (sym c.from.ensures ∙ c.if-from-length.false) (omega arith) (omega arith) match in
+    let named = first-here (some_ends known w e) n (omega arith) (sym c.paths.invariant.1 ∙ found) in
+    sym (ends-here known w e c.ends-test.true n (sym c.loop-length.invariant.1 ∙ named)) ∙ c.ends.invariant.1

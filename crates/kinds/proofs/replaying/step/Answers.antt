@@ -1,0 +1,10 @@
+-- Begin and the reports one by one are a replay, and a refused begin is a refused replay.
+use Rattle.series.proofs.Replaying.{not-begun}
+use Rattle.kinds.proofs.Stepped.{stepped}
+use Rattle.kinds.proofs.replaying.step.Goals as goal
+
+pub returns-in-Ok : goal.returns-in-Ok
+returns-in-Ok g c = stepped _ _ _ _ _ _ _ c.in-Ok.first _ _ _ _ _ c.in-Ok.ensures c.make_all.ensures
+
+pub returns-in-Err : goal.returns-in-Err
+returns-in-Err g c = not-begun _ _ _ _ _ _ _ c.in-Err.refusal _ _ c.in-Err.ensures
