@@ -1,10 +1,9 @@
 // The distances of the automaton's states, from a graph's arcs and forbidden paths.
 #![tactic(auto)]
 
-ghost use Rattle.std.specs.Prelude.{◌≡◌, ◌≤◌, replicate, take};
+ghost use Rattle.std.specs.Prelude.{◌≡◌, ◌≤◌, take};
 ghost use Rattle.walks.specs.Graph.{Graph};
 ghost use Rattle.walks.specs.Weights.{Weights};
-ghost use Rattle.distances.specs.Table.{inf};
 ghost use Rattle.automaton.specs.Area.{Given};
 ghost use Rattle.states.specs.Count.{states_of};
 ghost use Rattle.product.specs.Base.{is_towards, vertex_of};
@@ -12,7 +11,7 @@ ghost use Rattle.routes.specs.Plan.{MeasuredAll};
 ghost use Rattle.measuring.specs.Work.{WorkRoom};
 
 use automaton::Automaton;
-use distances::{Edge, INF};
+use distances::Edge;
 use product::{Goal, Product};
 use walks::{ArcTable, PathArea};
 
@@ -29,31 +28,6 @@ pub struct Work<const S: usize, const T: usize> {
 }
 
 impl<const S: usize, const T: usize> Work<S, T> {
-    // Blank tables: no chain has an edge, and no entry has been seen.
-    pub fn blank() -> Work<S, T>
-        ensures first_blank { result.first ≡ replicate S 0 }
-        ensures seen_blank { result.seen ≡ replicate S inf }
-        ensures table_blank { result.table ≡ replicate S 0 }
-    {
-        Work::<S, T> {
-            automaton: Automaton {
-                steps: [0; T],
-                blocked: [0; S],
-                latest: [0; S],
-                fail: [0; S],
-            },
-            edges: [Edge {
-                tail: 0,
-                head: 0,
-                cost: 0,
-            }; T],
-            first: [0; S],
-            next: [0; T],
-            seen: [INF; S],
-            table: [0; S],
-        }
-    }
-
     // Builds the automaton, and works out the distances of its states to a vertex, or from it, in the front of the table. Answers how
     // many states there are.
     pub fn measure(&mut self, arcs: ArcTable, paths: PathArea, goal: Goal) -> usize

@@ -9,7 +9,8 @@ ghost use Rattle.states.specs.Count.{states_of, most_states};
 ghost use Rattle.limits.specs.Limits.{longest, most_vertices};
 ghost use Rattle.routes.specs.Plan.{Asked, SearchedAll};
 
-use automaton::{PREFIXES, STATES, STEPS};
+use automaton::{Automaton, PREFIXES, STATES, STEPS};
+use distances::{Edge, INF};
 use limits::MOST_VERTICES;
 use measuring::Work;
 use product::{Goal, Product};
@@ -36,7 +37,24 @@ fn search_in<const S: usize, const T: usize>(
     requires steps_fit { T ≡ S * most_vertices }
     ensures { SearchedAll arcs.entry.weights.now arcs.entry.vertices paths.entry.bytes.now paths.entry.count start end walk.old result walk.new }
 {
-    let mut work = Work::<S, T>::blank();
+    // written out here and in `end_search`: handed back by a function (tried) the tables are copied, at up to 1.5 million instructions a plan
+    let mut work = Work::<S, T> {
+        automaton: Automaton {
+            steps: [0; T],
+            blocked: [0; S],
+            latest: [0; S],
+            fail: [0; S],
+        },
+        edges: [Edge {
+            tail: 0,
+            head: 0,
+            cost: 0,
+        }; T],
+        first: [0; S],
+        next: [0; T],
+        seen: [INF; S],
+        table: [0; S],
+    };
     let states = work.measure(arcs, paths, Goal::To(end));
     let product = Product::of(arcs, &work.automaton);
     least_walk(product, start, &work.table[..states], walk)

@@ -9,9 +9,7 @@ use Rattle.end_search.proofs.search_ends.Goals as goal
 pub measure-states-requires : goal.measure-states-requires
 measure-states-requires c =
     let given = c.requires.given in
-    let fit = few-states c.args.arcs.vertices c.args.paths.count given.bounded.few-vertices (omega (arith, given.spells.paths, given.bounded.few)) in
-    let blank = c.blank-work.ensures in
-    (lit< tt, (given, (c.requires.weighed, rw (blank.first_blank, blank.seen_blank, blank.table_blank) (blank_work _ most_states _ fit refl))))
+    (lit< tt, (given, (c.requires.weighed, blank_work _ most_states _ (few-states c.args.arcs.vertices c.args.paths.count given.bounded.few-vertices (omega (arith, given.spells.paths, given.bounded.few))) refl)))
 
 pub fill_ends-requires-clause-standing : goal.fill_ends-requires-clause-standing
 fill_ends-requires-clause-standing c =
