@@ -55,7 +55,7 @@ fn main(rt: HostRuntime) {
     );
 }
 
-// The first byte of a frame says which kind of case the rest is.
+// The first byte of a frame says which kind of case the rest is; each kind is answered by a function of its own, so a `match`.
 fn framed_case(rt: &impl Print, frame: &[u8]) {
     let Some((tag, input)) = frame.split_first() else {
         println!(rt; "NO KIND").unwrap_or(());

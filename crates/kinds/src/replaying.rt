@@ -89,6 +89,7 @@ fn step(rt: &impl Print, batch: Batch, paths: &mut [u8], walk: &mut [u8]) -> Res
     }
 }
 
+// One by one, as `series::replay` does it too: the two are compared.
 fn make_all(
     rt: &impl Print,
     bytes: &[u8],

@@ -58,7 +58,7 @@ fn items_in(size: usize) -> usize
     whole.min(MOST_ITEMS)
 }
 
-// The first n items of a list, and no matter what after them.
+// The first n items of a list, in an array of a fixed size, and no matter what after them.
 fn items(bytes: &[u8], n: usize) -> [Arc; MOST_ITEMS]
     requires few { n ≤ most_items }
     requires whole { n * 6 ≤ length bytes.now }

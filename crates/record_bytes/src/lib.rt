@@ -9,7 +9,7 @@ use trial_record::Record;
 // As many bytes as an area of a case may have.
 pub const MOST_AREA: usize = 4_096;
 
-// Two bytes as a number.
+// Two bytes as a number. A function for each size, as below: one over the size would need it computed from the type.
 pub fn word(s: &[u8], at: usize) -> usize
     requires { at + 2 ≤ length s.now }
     ensures value { result ≡ word_at s.now at }

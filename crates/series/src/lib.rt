@@ -29,7 +29,7 @@ fn report_size(list: &[u8]) -> Option<usize>
     }
 }
 
-// Makes the report at a place, if there is one.
+// Makes the report at a place, if there is one; its first byte then is its kind, 0 or 1.
 pub fn make(
     bytes: &[u8],
     rec: Record,

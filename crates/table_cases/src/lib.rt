@@ -58,7 +58,7 @@ pub fn table_case(rt: &impl Print, input: &[u8]) {
     changes(rt, "TABLE", &before, &table);
 }
 
-// The first n numbers of the table, four bytes each.
+// The first n numbers of the table, four bytes each; the table is an array of a fixed size.
 fn numbers(s: &[u8], from: usize, table: &mut [u32], n: usize)
     requires in_bytes { from + n * 4 ≤ length s.now }
     requires in_table { n ≤ length table.old }
