@@ -65,18 +65,22 @@ module _ (s : List ℕ) (b : Book) (read : reading s ≡ accepted b) (paths : Li
         (subst (λ o. Planned o (graph b) F start end p.walk r p.new) (unrefused p.walk p.fits)
         (subst (λ x. PlanningOf x paths count start end p.walk r p.new) read p.planned))
 
-    nothing : None (graph b) F start end → PlanTo s paths count start end (Ok Prelude.None)
-    nothing no_Walk =
-        let walk : List ℕ = replicate longest 0 in
-        let fits : longest ≤ length walk = omega (arith, length-replicate {A = ℕ} longest 0) in
+    -- what is planned in an area that fits is a plan to that end
+    pub plan-to : (walk : List ℕ) → longest ≤ length walk → (r : Outcome) (new : List ℕ) → Planned none (graph b) F start end walk r new → PlanTo s paths count start end r
+    plan-to walk fits r new p =
         record {
           walk = walk;
           fits = fits;
-          new = walk;
+          new = new;
           planned =
-              subst (λ x. PlanningOf x paths count start end walk (Ok Prelude.None) walk) (sym read)
-              (subst (λ o. Planned o (graph b) F start end walk (Ok Prelude.None) walk) (sym (unrefused walk fits)) (no_Walk, refl));
+              subst (λ x. PlanningOf x paths count start end walk r new) (sym read)
+              (subst (λ o. Planned o (graph b) F start end walk r new) (sym (unrefused walk fits)) p);
         }
+
+    nothing : None (graph b) F start end → PlanTo s paths count start end (Ok Prelude.None)
+    nothing no_Walk =
+        let walk : List ℕ = replicate longest 0 in
+        plan-to walk (omega (arith, length-replicate {A = ℕ} longest 0)) (Ok Prelude.None) walk (no_Walk, refl)
 
     none-exactly : (i : ℕ) → get_or (no_end ∷ no_end ∷ []) i 0 ≡ no_end → (get_or entry i 0 ≡ no_end) ↔ PlanTo s paths count start end (Ok Prelude.None)
     none-exactly i mark = (

@@ -2,6 +2,7 @@ pub mod AnswerLaws
 pub mod CallLaws
 pub mod EndLaws
 pub mod LabLaws
+pub mod PassLaws
 pub mod PlanLaws
 pub mod RefusalLaws
 pub mod SamePlans

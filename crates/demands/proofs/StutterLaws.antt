@@ -1,6 +1,6 @@
 -- Runs that come back to a grade, proved. One that names a grade twice in succession occurs in no line-up, since no changeover leads from a grade to itself.
 use Rattle.trials.specs.Operations.{rejected}
-use Rattle.std.specs.Prelude.{ℕ, suc, ◌≤◌, ◌<◌, ◌≡◌, refl, ◌&&◌, List, [], ◌∷◌, ◌++◌, ◌↔◌, ◌⊎◌, ◌≢◌, T, eqb, length, get_or, take, Ok, Err}
+use Rattle.std.specs.Prelude.{ℕ, suc, ◌≤◌, ◌<◌, ◌≡◌, refl, ◌&&◌, List, [], ◌∷◌, ◌++◌, ◌↔◌, ◌≢◌, T, eqb, length, get_or, take, Ok, Err}
 use Rattle.std.proofs.Common.{sym, ap, subst, ◌∙◌, inl, inr, ⊎_elim, arith, eqb→eq}
 use Rattle.std.proofs.Math.Facts.{or_yes}
 use Rattle.limits.specs.Limits.{area_size, longest_path, most_sets, most_paths}

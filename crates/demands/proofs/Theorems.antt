@@ -1,15 +1,19 @@
--- The three demands hold, and what 02, orders 1 and 2, adds to them.
+-- The three demands hold, and what 02, orders 1 to 3, adds to them.
+use Rattle.distances.proofs.Made.{made-first, made-enough, settled-best, made-few}
+use Rattle.measuring.proofs.Few.{few-passes}
+use Rattle.measuring.proofs.Unique.{counted-unique}
 use Rattle.book_bytes.proofs.BytesLaws.{bytes_below}
 use Rattle.book_bytes.proofs.Longest.{full_book, full_keeps, full_length}
 use Rattle.book_bytes.proofs.LongBook.{longest-book}
 use Rattle.book_bytes.proofs.RoundTrip.{every_book_read, round_trip, refused_otherwise, same-book}
-use Rattle.demands.specs.Demands.{Demand1, Demand2, Order1, Order2, Demand3}
+use Rattle.demands.specs.Demands.{Demand1, Demand2, Order1, Order2, Order3, Demand3}
 use Rattle.demands.proofs.AnswerLaws.{answers}
 use Rattle.demands.proofs.RefusalLaws.{refusals}
 use Rattle.demands.proofs.PlanLaws.{batch-plans}
 use Rattle.demands.proofs.EndLaws.{every_end, batch-ends}
 use Rattle.demands.proofs.SheetOrder.{same-answers}
 use Rattle.demands.proofs.StutterLaws as stutters
+use Rattle.demands.proofs.PassLaws.{counted-first, settled-plans, settled-ends, few-by-plans, few-by-tables, never-over}
 use Rattle.demands.proofs.LabLaws.{ruled, labs, replay-labs}
 
 pub demand_1 : Demand1
@@ -49,6 +53,23 @@ order-2 =
       none = stutters.none;
       plans = stutters.plans;
       never-named = stutters.never-named;
+    }
+
+pub order-3 : Order3
+order-3 =
+    record {
+      first = made-first;
+      counted = counted-first;
+      one = counted-unique;
+      enough = made-enough;
+      settled = settled-best;
+      settled-plans = settled-plans;
+      settled-ends = settled-ends;
+      few = made-few;
+      best = few-passes;
+      plans = few-by-plans;
+      tables = few-by-tables;
+      test = never-over;
     }
 
 pub demand_3 : Demand3

@@ -1,8 +1,8 @@
 -- The three demands (docs/RULES.md), sentence by sentence: each is a record with a part for each sentence, over the definitions that the contracts of the
--- operations name; and after the second demand what requests 1 and 2 add (02). A sentence that a comment has in quotation marks is the demand's, 02's in the part of a
+-- operations name; and after the second demand what requests 1 to 3 add (02). A sentence that a comment has in quotation marks is the demand's, 02's in the part of a
 -- request, or 01's where it says so. Theorems.antt proves them.
 use Rattle.std.specs.Prelude
-use Rattle.std.specs.Prelude.{ℕ, suc, ◌≤◌, ◌<◌, ◌+◌, ◌*◌, ◌≡◌, ◌⊎◌, ◌↔◌, ◌≢◌, length, drop, get_or, take, Option, Some, Result, Ok, Err}
+use Rattle.std.specs.Prelude.{ℕ, suc, ◌≤◌, ◌<◌, ◌+◌, ◌*◌, ◌≡◌, ◌⊎◌, ◌↔◌, ◌≢◌, false, length, drop, get_or, take, Option, Some, Result, Ok, Err}
 use Rattle.planner.specs.Planning.{walked, Answer as Outcome}
 use Rattle.trials.specs.Operations.{rejected}
 use Rattle.walk_check.specs.declared.Occurrence.{Occurrence}
@@ -12,11 +12,22 @@ use Rattle.lists.specs.Distinct.{Distinct}
 use Rattle.limits.specs.Limits.{area_size, longest, longest_path, most_sets, most_paths}
 use Rattle.walks.specs.Graph.{Graph}
 use Rattle.walks.specs.Walk.{Walk, weight_of, hops}
-use Rattle.walks.specs.Avoid.{Occurs, ◌⊆◌}
+use Rattle.walks.specs.Avoid.{Occurs, Long, ◌⊆◌}
 use Rattle.walks.specs.Order.{Lex, ◌≼⟨◌⟩◌}
 use Rattle.walks.specs.Best.{Best, None}
 use Rattle.walks.specs.Stutter.{Stutters, ButStutters}
 use Rattle.states.specs.Chosen.{chosen}
+use Rattle.distances.specs.Edge.{Edge, Within}
+use Rattle.distances.specs.Table.{at, inf, pass, passes as after_passes, made}
+use Rattle.distances.specs.Pack.{hops_limit, pack, Weighted, Targets, Answered}
+use Rattle.distances.specs.Reverse.{swapped}
+use Rattle.distances.specs.Made.{First, Short}
+use Rattle.automaton.specs.Area.{Bounded}
+use Rattle.product.specs.Product.{state_edges}
+use Rattle.product.specs.Base.{base, targets}
+use Rattle.routes.specs.Plan.{Prepared}
+use Rattle.measuring.specs.Counted.{Counted}
+use Rattle.pass_counts.specs.Most.{most_from}
 use Rattle.book.specs.declared.Refusal.{Refusal}
 use Rattle.book.specs.Refusal.{Test, number_of}
 use Rattle.book.specs.Book.{Book, counts, graph, RuleSet, All, all_paths}
@@ -29,7 +40,8 @@ use Rattle.rules.specs.Operations.{bind_tests, bound_as, binding, area_after}
 use Rattle.walk_check.specs.Checking.{check_tests, checking}
 use Rattle.planner.specs.Planning.{plan_tests, PlanningOf, Planning}
 use Rattle.planner.specs.RuleSets.{SameGraph, Reordered}
-use Rattle.ends.specs.Ends.{no_end}
+use Rattle.ends.specs.Ends.{no_end, ends}
+use Rattle.ends.specs.Least.{entries}
 use Rattle.reach.specs.Reaching.{reach_tests, reached, table_after, Reaching}
 use Rattle.book.specs.declared.Arc.{Arc as Item}
 use Rattle.listed.specs.Listing.{listing}
@@ -333,6 +345,71 @@ pub record Order2 : Type 0 where
   -- From the lab it is refused under 12.
   pub never-named : (s : List ℕ) (b : Book) → reading s ≡ accepted b → (q : Record) (paths walk : List ℕ) → Tried b q paths walk → (r : List ℕ) → Stutters r
       → (x : Refusal) × (number_of x ≡ 12) × (reporting s q paths walk (failed r) ≡ answering (Err (rejected x q)) paths walk)
+
+-- ==== Passes that end with the first that changes none (02, order 3)
+-- Distances are worked out in passes over all edges of a graph of states. An entry is litres and changeovers in one number (`pack`), or `inf` while no path is known, so
+-- that a pass which changes neither leaves the table as it is. `pass es t` is the table after a pass: over every edge of es once, each from the table t alone.
+-- `after_passes es k t` is that after k passes. In a graph of n states `made es n t` of them are made, by the contracts of `sweeps::distances` and
+-- `measuring::Work::measure`, which planning and the table of ends call; and by the same contracts the table that is left is that after n passes.
+
+-- What a distance is, under the forbidden runs F: litres and changeovers of the best line-up, or that there is none. Changeovers are below the limit of packing, and the
+-- number below `inf`, so that it tells which of the two, and both can be read off it.
+abbrev pub IsDistance : Graph → List (List ℕ) → ℕ → ℕ → ℕ → Type 0
+IsDistance g F start end d =
+    ((w : List ℕ) × Best g F start end w × (d ≡ pack (weight_of g w) (hops w)) × (hops w < hops_limit) × (d < inf))
+    ⊎ ((d ≡ inf) × None g F start end)
+
+-- A table of ends is filled from start without known runs, and its entry of this end is none or has at most H changeovers.
+pub record EntryWithin (s : List ℕ) (b : Book) (paths : List ℕ) (start end H : ℕ) : Type 0 where
+  pub table : List ℕ
+  pub room : 2 * b.count ≤ length table
+  pub answer : Result ℕ Refusal
+  pub new : List ℕ
+  pub filled : Reaching (reading s) paths 0 start table answer new
+  pub few : get_or new (2 * end + 1) 0 ≢ no_end → get_or new (2 * end + 1) 0 ≤ H
+
+pub record Order3 : Type 0 where
+  -- 'distances shall be worked out in passes over the whole book, ending at the latest after the first pass that changes none, in litres or in changeovers': the last
+  -- pass that is made is the first that changes none ...
+  pub first : (n : ℕ) (es : List Edge) → Within n es → (t : List ℕ) → First es t (made es n t)
+  -- ... also of those that `Counted` counts, to an end without known runs, and whatever the tables they are as many ...
+  pub counted : {g : Graph} {end r : ℕ} (c : Counted g end r)
+      → First (state_edges c.weights c.steps c.blockeds c.latests g.count c.m) (targets c.latests end c.m) r
+  pub one : {g : Graph} {end r r' : ℕ} → Counted g end r → Counted g end r' → r ≡ r'
+  -- ... and it leaves the same table as a pass for each state, which is why the contract of measuring names the table that it named: 'Every plan, tie and refusal is as
+  -- before', by the contracts of planning and of the table of ends, which stand unchanged.
+  pub enough : (n : ℕ) (es : List Edge) → Within n es → (t : List ℕ) → after_passes es (made es n t) t ≡ after_passes es n t
+  -- 'Proved is that where a pass changes none, each distance is already the least, litres first, then changeovers': of each state, over its paths of any length to a
+  -- target (`Weighted`: in a graph of at most 2,048 states, with at most 1,000,000 litres an edge) ...
+  pub settled : {n : ℕ} {es : List Edge} {weight : Edge → ℕ} → Weighted n es weight → (base : List ℕ) → Targets base
+      → (k : ℕ) → let t : List ℕ = after_passes es k base in pass es t ≡ t → (q : ℕ) → q < n → Answered es weight base q (at t q)
+  -- ... and of each start, over the line-ups to an end, whatever runs are forbidden.
+  pub settled-plans : {g : Graph} {F : List (List ℕ)} {m : ℕ} {weights steps blockeds latests : List ℕ}
+      → Prepared g F g.count m weights steps blockeds latests → Long F → (end k : ℕ)
+      → let es : List Edge = state_edges weights steps blockeds latests g.count m in
+      let t : List ℕ = after_passes es k (targets latests end m) in pass es t ≡ t → (start : ℕ) → start < g.count → IsDistance g F start end (at t start)
+  -- The table of request 1 goes by passes from a start, over the edges the other way round: where one of these changes none, the litres and changeovers that are read
+  -- off the distances are already those of the plans to each grade, or none.
+  pub settled-ends : {g : Graph} {F : List (List ℕ)} {m : ℕ} {weights steps blockeds latests : List ℕ}
+      → Prepared g F g.count m weights steps blockeds latests → Bounded g.count F → (start k : ℕ) → start < g.count
+      → let es : List Edge = swapped (state_edges weights steps blockeds latests g.count m) in
+      let t : List ℕ = after_passes es k (base false latests start m) in pass es t ≡ t → entries latests t m g.count ≡ ends g F start g.count
+  -- 'A test counts the passes: without known runs, at most one more than the most changeovers of a plan between any two grades.' H need only bound the plans to the end
+  -- of the distances. In any graph: where every state has a least path with at most H edges ...
+  pub few : (n : ℕ) (es : List Edge) → Within n es → (base : List ℕ) (H : ℕ) → Short H n es base → made es n base ≤ suc H
+  -- ... in a graph of grades: where the best line-ups to the end have at most H changeovers ...
+  pub best : {g : Graph} {end r H : ℕ} → Counted g end r
+      → ((start : ℕ) (w : List ℕ) → start < g.count → Best g [] start end w → hops w ≤ H) → r ≤ suc H
+  -- ... in a book: where every plan to the end has at most H, by the contract of planning ...
+  pub plans : (s : List ℕ) (b : Book) → reading s ≡ accepted b → (paths : List ℕ) → area_size ≤ length paths → Valid b.count paths 0
+      → (end r H : ℕ) → end < b.count → Counted (graph b) end r
+      → ((start litres changeovers : ℕ) → start < b.count → PlanTo s paths 0 start end (walked litres changeovers) → changeovers ≤ H) → r ≤ suc H
+  -- ... or every entry of the end, by that of request 1, which the test calls.
+  pub tables : (s : List ℕ) (b : Book) → reading s ≡ accepted b → (paths : List ℕ) → area_size ≤ length paths → Valid b.count paths 0
+      → (end r H : ℕ) → end < b.count → Counted (graph b) end r
+      → ((start : ℕ) → start < b.count → EntryWithin s b paths start end H) → r ≤ suc H
+  -- ... so with the number that the test prints as the most changeovers (`most_from`): it never prints OVER.
+  pub test : (s : List ℕ) (b : Book) → reading s ≡ accepted b → (end r : ℕ) → end < b.count → Counted (graph b) end r → r ≤ suc (most_from s b.count b.count)
 
 -- ==== Demand 3
 -- After an accepted begin β the reports ρs were made, each on what the one before it left. `done` are those that were answered with

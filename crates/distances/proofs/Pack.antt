@@ -7,7 +7,7 @@ use Rattle.limits.specs.Limits.{heaviest}
 use Rattle.distances.specs.Edge.{Edge, Path, total, cost}
 use Rattle.distances.specs.Table.{at, inf, Least, LeastWithin}
 use Rattle.distances.proofs.Shorten.{shorten, least-within}
-use Rattle.distances.specs.Pack.{hops_limit, pack, NoWorse, Weighted, Targets, BestWithin, Best}
+use Rattle.distances.specs.Pack.{hops_limit, pack, NoWorse, Weighted, Targets, BestWithin, Best, Answered}
 
 -- below the limit packing keeps the order, both ways
 pub pack-order : (w h w' h' : ℕ) → h' < hops_limit → pack w h ≤ pack w' h' → NoWorse w h w' h'
@@ -86,3 +86,16 @@ module _ {n : ℕ} {es : List Edge} {weight : Edge → ℕ} (g : Weighted n es w
     none_found l r p path target =
         let (p', path', short, le) = shorten n es g.within p q r h path in
         none_within base (hops_limit - 1) q (lit< tt) (least-within n es g.within base (hops_limit - 1) g.few q h l) r p' path' (omega (arith, g.few)) target
+
+    pub answered : Targets base → {d : ℕ} → Least es base q d → Answered es weight base q d
+    answered targets {d} l = by_cases (dec_lt d inf) near none
+      where
+        near : d < inf → Answered es weight base q d
+        near below =
+            let (r, p, b, e) = found targets l below in
+            inl (r, p, b, e, omega (arith, best_bounds r p b, g.few), below)
+
+        none : (d < inf → ⊥) → Answered es weight base q d
+        none far =
+            let top : d ≡ inf = ⊎_elim (λ e. absurd (omega (arith, l.least [] q refl))) (λ e. omega (arith, l.least [] q refl)) (targets q) in
+            inr (top, none_found (rw top at l))

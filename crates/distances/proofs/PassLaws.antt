@@ -14,13 +14,13 @@ at_set [] q v h = omega arith
 at_set (x ∷ t) zero v h = refl
 at_set (x ∷ t) (suc q) v h = at_set t q v h
 
-pub relax-tail : (old : List ℕ) (e : Edge) (new : List ℕ) → at (relax old e new) e.tail ≡ min (at new e.tail) (at old e.head + e.cost)
+relax-tail : (old : List ℕ) (e : Edge) (new : List ℕ) → at (relax old e new) e.tail ≡ min (at new e.tail) (at old e.head + e.cost)
 relax-tail old e new = at_set new e.tail _ (omega arith)
 
 relax-other : (old : List ℕ) (e : Edge) (new : List ℕ) (q : ℕ) → q ≢ e.tail → at (relax old e new) q ≡ at new q
 relax-other old e new q h = get_or-set_other new e.tail q _ 0 h
 
-pub relax_le : (old : List ℕ) (e : Edge) (new : List ℕ) (q : ℕ) → at (relax old e new) q ≤ at new q
+relax_le : (old : List ℕ) (e : Edge) (new : List ℕ) (q : ℕ) → at (relax old e new) q ≤ at new q
 relax_le old e new q = by_cases (ℕ_discrete q e.tail) same (λ h. omega (arith, relax-other old e new q h))
   where
     same : q ≡ e.tail → at (relax old e new) q ≤ at new q
@@ -32,12 +32,12 @@ relaxes_le old [] new q = omega arith
 relaxes_le old (e ∷ es) new q = omega (arith, relaxes_le old es (relax old e new) q, relax_le old e new q)
 
 -- after every edge was relaxed, none is left to lower an entry
-relaxes-edge : (old : List ℕ) {e : Edge} {es : List Edge} (new : List ℕ) → e ∈ es → at (relaxes old es new) e.tail ≤ at old e.head + e.cost
+pub relaxes-edge : (old : List ℕ) {e : Edge} {es : List Edge} (new : List ℕ) → e ∈ es → at (relaxes old es new) e.tail ≤ at old e.head + e.cost
 relaxes-edge old {e} new (Memᴰ.head {x} {xs} h) =
     rw h (omega (arith, relaxes_le old xs (relax old x new) x.tail, relax-tail old x new))
 relaxes-edge old new (Memᴰ.tail {x} m) = relaxes-edge old (relax old x new) m
 
-pub relax-from : (old : List ℕ) (e : Edge) (new : List ℕ) (q : ℕ) →
+relax-from : (old : List ℕ) (e : Edge) (new : List ℕ) (q : ℕ) →
     (at (relax old e new) q ≡ at new q) ⊎ ((e.tail ≡ q) × (at (relax old e new) q ≡ at old e.head + e.cost))
 relax-from old e new q = by_cases (ℕ_discrete q e.tail) same (λ h. inl (relax-other old e new q h))
   where
@@ -47,14 +47,14 @@ relax-from old e new q = by_cases (ℕ_discrete q e.tail) same (λ h. inl (relax
         (λ l. inl (omega (arith, relax-tail old e new))))
 
 -- an entry is the one that was there or that of an edge
-relaxes-from : (old : List ℕ) (es : List Edge) (new : List ℕ) (q : ℕ) → (at (relaxes old es new) q ≡ at new q) ⊎ FromEdge old es q (at (relaxes old es new) q)
+pub relaxes-from : (old : List ℕ) (es : List Edge) (new : List ℕ) (q : ℕ) → (at (relaxes old es new) q ≡ at new q) ⊎ FromEdge old es q (at (relaxes old es new) q)
 relaxes-from old [] new q = inl refl
 relaxes-from old (e ∷ es) new q =
     ⊎_elim (λ h. ⊎_elim (λ h'. inl (h ∙ h')) (λ h'. inr (e, Memᴰ.head refl, h'.0, h ∙ h'.1)) (relax-from old e new q))
     (λ f. inr (f.0, Memᴰ.tail f.1, f.2, f.3))
     (relaxes-from old es (relax old e new) q)
 
-length-relaxes : (old : List ℕ) (es : List Edge) (new : List ℕ) → length (relaxes old es new) ≡ length new
+pub length-relaxes : (old : List ℕ) (es : List Edge) (new : List ℕ) → length (relaxes old es new) ≡ length new
 length-relaxes old [] new = refl
 length-relaxes old (e ∷ es) new = length-relaxes old es (relax old e new) ∙ length-set new e.tail _
 
@@ -70,6 +70,11 @@ length-passes es (suc k) t = length-pass es (passes es k t) ∙ length-passes es
 pub pass_le : (es : List Edge) (t : List ℕ) (q : ℕ) → at (pass es t) q ≤ at t q
 unfolding pass
 pass_le es t q = relaxes_le t es t q
+
+pub passes_le : (es : List Edge) (k : ℕ) (t : List ℕ) (q : ℕ) → at (passes es k t) q ≤ at t q
+unfolding passes
+passes_le es zero t q = omega arith
+passes_le es (suc k) t q = omega (arith, pass_le es (passes es k t) q, passes_le es k t q)
 
 pub pass-edge : {es : List Edge} (t : List ℕ) {e : Edge} → e ∈ es → at (pass es t) e.tail ≤ at t e.head + e.cost
 unfolding pass

@@ -1,23 +1,16 @@
 -- Where a pass changes nothing, the table is least over all paths, of any length.
-use Rattle.std.specs.Prelude.{ℕ, ◌+◌, ◌≤◌, ◌≡◌, refl, List, [], ◌∷◌, set, T, leb}
+use Rattle.std.specs.Prelude.{ℕ, ◌+◌, ◌≤◌, ◌≡◌, refl, List, [], ◌∷◌, T, leb}
 use Rattle.std.proofs.Common.{ap, ◌∙◌, arith, leb→le, le→leb}
 use mathlib.Core.List.Memᴰ
-use Rattle.std.proofs.Math.Nat.{min-eq_left}
 use Rattle.std.proofs.Math.Decide.{le_ind}
-use Rattle.std.proofs.lemmas.List.{set-get_or}
 use Rattle.distances.specs.Edge.{Edge, ◌∈◌, Path, cost}
-use Rattle.distances.specs.Table.{at, Attained, Least, relaxes, pass, passes, settled}
+use Rattle.distances.specs.Table.{at, Attained, Least, pass, passes, settled}
 use Rattle.std.specs.Float.Ieee.Fits.{and_i}
 use Rattle.lists.specs.Test.{T_and}
 use Rattle.distances.proofs.PassLaws.{passes-least}
+use Rattle.distances.proofs.Rows.{relaxes-kept}
 
-pub least_unique : {es : List Edge} {base : List ℕ} {q d d' : ℕ} → Least es base q d → Least es base q d' → d ≡ d'
-least_unique l l' =
-    let (p, r, path, e) = l.attained in
-    let (p', r', path', e') = l'.attained in
-    omega (arith, l.least p' r' path', l'.least p r path)
-
-pub settled_cons : (e : Edge) (es : List Edge) (t : List ℕ) → T (settled (e ∷ es) t) → (at t e.tail ≤ at t e.head + e.cost) × T (settled es t)
+settled_cons : (e : Edge) (es : List Edge) (t : List ℕ) → T (settled (e ∷ es) t) → (at t e.tail ≤ at t e.head + e.cost) × T (settled es t)
 settled_cons e es t h = let both = T_and (leb (at t e.tail) (at t e.head + e.cost)) (settled es t) h in (leb→le _ _ both.0, both.1)
 
 -- a settled table is one that no edge lowers
@@ -30,16 +23,10 @@ edge-settled [] t h = tt
 edge-settled (e ∷ es) t h =
     and_i (leb (at t e.tail) (at t e.head + e.cost)) (settled es t) (le→leb _ _ (h e (Memᴰ.head refl))) (edge-settled es t (λ x m. h x (Memᴰ.tail m)))
 
-relaxes-settled : (es : List Edge) (t : List ℕ) → T (settled es t) → relaxes t es t ≡ t
-relaxes-settled [] t h = refl
-relaxes-settled (e ∷ es) t h =
-    let (low, rest) = settled_cons e es t h in
-    ap (relaxes t es) (ap (set t e.tail) (min-eq_left low) ∙ set-get_or t e.tail 0) ∙ relaxes-settled es t rest
-
 -- a pass over a settled table changes nothing
 pub pass-settled : (es : List Edge) (t : List ℕ) → T (settled es t) → pass es t ≡ t
 unfolding pass
-pass-settled = relaxes-settled
+pass-settled es t h = relaxes-kept t es t (λ e m. settled-edge t h m)
 
 -- once settled, further passes change nothing
 pub passes_stay : (es : List Edge) (t : List ℕ) (k : ℕ) → T (settled es (passes es k t)) → (m : ℕ) → k ≤ m → passes es m t ≡ passes es k t

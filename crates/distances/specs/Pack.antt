@@ -39,3 +39,10 @@ pub record Best (es : List Edge) (weight : Edge → ℕ) (base : List ℕ) (q r 
   pub path : Path es q r p
   pub target : at base r ≡ 0
   pub best : (p' : List Edge) (r' : ℕ) → Path es q r' p' → at base r' ≡ 0 → NoWorse (total weight p) (length p) (total weight p') (length p')
+
+-- d answers q: it is the weight and the number of edges of a best path, below inf and with edges below the limit, so that both can be read off it; or inf where no path
+-- leads to a target
+abbrev pub Answered : List Edge → (Edge → ℕ) → List ℕ → ℕ → ℕ → Type 0
+Answered es weight base q d =
+    ((r : ℕ) × (p : List Edge) × Best es weight base q r p × (d ≡ pack (total weight p) (length p)) × (length p < hops_limit) × (d < inf)) ⊎
+    ((d ≡ inf) × ((r : ℕ) (p : List Edge) → Path es q r p → at base r ≡ 0 → ⊥))

@@ -1,5 +1,5 @@
 -- Tables of distances, what they should hold, and how they are worked out: in passes over the edges.
-use Rattle.std.specs.Prelude.{ℕ, zero, suc, ◌+◌, ◌^◌, ◌≤◌, min, ◌≡◌, Bool, true, ◌&&◌, List, [], ◌∷◌, length, get_or, set, leb}
+use Rattle.std.specs.Prelude.{ℕ, zero, suc, ◌+◌, ◌^◌, ◌≤◌, min, ◌≡◌, Bool, true, ◌&&◌, cond, List, [], ◌∷◌, length, get_or, set, leb}
 use Rattle.distances.specs.Edge.{Edge, Path, cost}
 
 -- the entry at a state
@@ -32,6 +32,11 @@ abbrev pub relaxes : List ℕ → List Edge → List ℕ → List ℕ
 relaxes old [] new = new
 relaxes old (e ∷ es) new = relaxes old es (relax old e new)
 
+-- what relaxing edges from one state makes of its entry d
+abbrev pub lowest : List ℕ → List Edge → ℕ → ℕ
+lowest old [] d = d
+lowest old (e ∷ es) d = lowest old es (min d (at old e.head + e.cost))
+
 -- a pass: every edge once, all from the old table
 unfoldable pub pass : List Edge → List ℕ → List ℕ
 pass es t = relaxes t es t
@@ -44,3 +49,9 @@ passes es (suc k) t = pass es (passes es k t)
 abbrev pub settled : List Edge → List ℕ → Bool
 settled [] t = true
 settled (e ∷ es) t = leb (at t e.tail) (at t e.head + e.cost) && settled es t
+
+-- how many passes are made from t until one changes none, which counts; after n that changed an entry the next is taken to change none, as it does in a graph of n
+-- states (`made-first`)
+unfoldable pub made : List Edge → ℕ → List ℕ → ℕ
+made es zero t = 1
+made es (suc n) t = cond (settled es t) 1 (suc (made es n (pass es t)))

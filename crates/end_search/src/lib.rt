@@ -8,7 +8,6 @@ ghost use Rattle.automaton.specs.Area.{Given};
 ghost use Rattle.end_search.specs.EndsAll.{EndsAll};
 
 use automaton::{Automaton, STATES, STEPS};
-use distances::{Edge, INF};
 use ends::fill_ends;
 use measuring::Work;
 use product::Goal;
@@ -22,7 +21,7 @@ pub fn search_ends(arcs: ArcTable, paths: PathArea, start: u8, ends: &mut [u32])
     requires room { 2 * arcs.vertices ≤ length ends.old }
     ensures { EndsAll arcs.entry.weights.now arcs.entry.vertices paths.entry.bytes.now paths.entry.count start ends.old ends.new }
 {
-    // written out here and in `search`: handed back by a function (tried) the tables are copied, at up to 1.5 million instructions a plan
+    // written out here and in `search`: handed back by a function (tried) the tables are copied
     let mut work = Work::<STATES, STEPS> {
         automaton: Automaton {
             steps: [0; STEPS],
@@ -30,21 +29,14 @@ pub fn search_ends(arcs: ArcTable, paths: PathArea, start: u8, ends: &mut [u32])
             latest: [0; STATES],
             fail: [0; STATES],
         },
-        edges: [Edge {
-            tail: 0,
-            head: 0,
-            cost: 0,
-        }; STEPS],
-        first: [0; STATES],
-        next: [0; STEPS],
-        seen: [INF; STATES],
         table: [0; STATES],
+        other: [0; STATES],
     };
-    let states = work.measure(arcs, paths, Goal::From(start));
+    let measures = work.measure(arcs, paths, Goal::From(start));
     fill_ends(
         arcs.vertices,
         &work.automaton.latest,
-        &work.table[..states],
+        &work.table[..measures.states],
         ends,
     )
 }

@@ -75,7 +75,7 @@ module _ {g : Graph} {F : List (List ℕ)} {n s : ℕ} {weights steps blockeds l
   measured_standing = record {
     few = omega (arith, r.prepared.count-is, r.prepared.table.few);
     room = r.prepared.built.latests-room;
-    stands = λ q h. ((prepared-fits r.prepared).rows q h).latest-below;
+    stands = λ q h. let row = (prepared-fits r.prepared).rows q h in omega (arith, row.latest-below, row.few-vertices);
   }
 
   pub measured_ends : Bounded n F → s < n → entries latests d (length d) n ≡ ends g F s n

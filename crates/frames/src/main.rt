@@ -18,6 +18,7 @@ enum Kind {
     Any(Call),
     Board,
     Table,
+    Passes,
 }
 
 // A first byte that says no kind.
@@ -41,6 +42,8 @@ impl TryFrom<u8> for Kind {
             9 => Ok(Kind::Any(Call::Failed)),
             10 => Ok(Kind::Board),
             11 => Ok(Kind::Table),
+            13 => Ok(Kind::Passes),
+            // 12 says none: stored frames hold it as a byte that says no kind.
             _ => Err(UnknownKind),
         }
     }
@@ -69,6 +72,7 @@ fn framed_case(rt: &impl Print, frame: &[u8]) {
         Ok(Kind::Any(call)) => any_case(rt, call, input),
         Ok(Kind::Board) => table_cases::board_case(rt, input),
         Ok(Kind::Table) => table_cases::table_case(rt, input),
+        Ok(Kind::Passes) => pass_cases::passes_case(rt, input),
         Err(UnknownKind) => println!(rt; "UNKNOWN KIND").unwrap_or(()),
     }
 }

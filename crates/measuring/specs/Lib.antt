@@ -1,2 +1,3 @@
--- Meaning for this crate's contract: Work (the work tables). Its laws stand there too.
+-- Meaning for this crate's contract: Work (the work tables), whose laws stand there too. Counted says of a number that so many passes were made; its laws are in proofs/.
 pub mod Work
+pub mod Counted

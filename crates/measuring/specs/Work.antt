@@ -1,40 +1,33 @@
 -- The work tables of the whole search, and what building the automaton and the distances ask of them.
-use Rattle.std.specs.Prelude.{Bool, List, ◌++◌, ◌≡◌, ℕ, ◌*◌, ◌<◌, ◌≤◌, length, take, drop, replicate}
-use Rattle.std.proofs.Math.Logic.{by_cases}
+use Rattle.std.specs.Prelude.{Bool, List, ◌++◌, ◌≡◌, ℕ, ◌*◌, ◌≤◌, length, take, drop, replicate}
 use Rattle.std.proofs.Common.{◌∙◌, arith, length-take-le, take_at}
-use Rattle.std.proofs.Math.Decide.{dec_lt}
-use Rattle.std.proofs.lemmas.List.{length-replicate, get_or-replicate}
-use Rattle.std.proofs.Math.ListN.{get_or-eq_default}
+use Rattle.std.proofs.lemmas.List.{length-replicate}
 use Rattle.std.proofs.Math.Seq.{length_front}
 use Rattle.limits.specs.Limits.{most_vertices}
 use Rattle.walks.specs.Graph.{Graph}
 use Rattle.walks.specs.Weights.{Weights}
-use Rattle.distances.specs.Edge.{Edge}
-use Rattle.distances.specs.Table.{at, inf, passes}
+use Rattle.distances.specs.Table.{passes}
 use Rattle.automaton.specs.Area.{Spells}
 use Rattle.states.specs.Count.{states_of}
 use Rattle.automaton.specs.Built.{Built}
-use Rattle.product.specs.Scratch.{EdgeRoom}
 use Rattle.product.specs.Product.{state_edges}
 use Rattle.product.specs.Base.{base, directed}
 use Rattle.routes.specs.Plan.{Prepared, Measured}
 
--- Room for `most` states in work tables for s states and t steps: in the automaton's tables and those for the edges, and in the table of distances; and blank tables for the chains of edges and for the entries seen.
-pub record WorkRoom (most s t : ℕ) (first seen table : List ℕ) : Type 0 where
+-- Room for `most` states in work tables for s states and t steps: in the automaton's, and in the two tables of distances.
+pub record WorkRoom (most s t : ℕ) (table other : List ℕ) : Type 0 where
   pub states_fit : most ≤ s
   pub steps_fit : most * most_vertices ≤ t
   pub entries : most ≤ length table
-  pub first-blank : (h : ℕ) → at first h ≡ 0
-  pub seen_blank : (q : ℕ) → q < length seen → at seen q ≡ inf
+  pub others : most ≤ length other
 
 -- Arrays for s states, as they are made.
-pub blank_work : (most s t : ℕ) → most ≤ s → t ≡ s * most_vertices → WorkRoom most s t (replicate s 0) (replicate s inf) (replicate s 0)
+pub blank_work : (most s t : ℕ) → most ≤ s → t ≡ s * most_vertices → WorkRoom most s t (replicate s 0) (replicate s 0)
 blank_work most s t h square = record {
   states_fit = h;
   steps_fit = omega arith;
   entries = rw length-replicate h;
-  first-blank = λ q. by_cases (dec_lt q s) (λ l. get_or-replicate s q 0 0 l) (λ l. get_or-eq_default (replicate s 0) 0 (omega (arith, length-replicate {A = ℕ} s 0)));
-  seen_blank = λ q l. get_or-replicate s q inf 0 (omega (arith, length-replicate s inf));
+  others = rw length-replicate h;
 }
 
 -- The tables that were built, with the front of a table for the distances of their states.
@@ -48,17 +41,6 @@ module _ {paths : List ℕ} {count vertices m : ℕ} {F : List (List ℕ)} {step
 
     pub front-prepared : {g : Graph} {weights : List ℕ} → g.count ≡ vertices → Weights g weights → Prepared g F vertices (length (take m table)) weights steps blockeds latests
     front-prepared count-is weighed = rw front_length (record { count-is = count-is; built = built; table = weighed })
-
-    pub front-edges : {es : List Edge} {first next seen : List ℕ} (s t : ℕ) → WorkRoom (states_of vertices count) s t first seen table → length es ≡ t → length next ≡ t → length first ≡ s → length seen ≡ s
-        → EdgeRoom (length (take m table)) es first next seen
-    front-edges s t r edges_length next_length first_length seen_length = rw front_length (record {
-      edges_room = omega (arith, built-counted, r.steps_fit);
-      next-room = omega (arith, built-counted, r.steps_fit);
-      first-room = omega (arith, built-counted, r.states_fit);
-      seen_room = omega (arith, built-counted, r.states_fit);
-      first-blank = r.first-blank;
-      seen_blank = r.seen_blank;
-    })
 
     -- The front after the distances x have come back to it.
     module _ (x : List ℕ) (same : length x ≡ length (take m table)) where

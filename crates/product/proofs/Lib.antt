@@ -1,2 +1,5 @@
-pub mod Filling
+pub mod Word
+pub mod Visit
+pub mod Marking
+pub mod Edges
 pub mod Looping

@@ -6,7 +6,8 @@ use Rattle.automaton.specs.Built.{Built}
 use Rattle.walks.specs.Weights.{Weights}
 use Rattle.states.specs.Count.{most_states}
 use Rattle.limits.specs.Limits.{heaviest, most_vertices}
-use Rattle.product.specs.Product.{arc_at, step_to, is_open}
+use Rattle.distances.specs.Edge.{Within}
+use Rattle.product.specs.Product.{arc_at, step_to, is_open, state_edges, edges-over}
 use Rattle.product.specs.ProductLaws.{stands-below, open_step, step-weight, step-below}
 
 -- The tables have a row for state q, with the weights of arcs at its vertices below n.
@@ -16,7 +17,7 @@ pub record Row (n : ℕ) (weights steps blockeds latests : List ℕ) (q : ℕ) :
   pub steps_row : q * most_vertices + most_vertices ≤ length steps
   pub blockeds_row : q < length blockeds
   pub latests-row : q < length latests
-  pub latest-below : get_or latests q 0 < most_vertices
+  pub latest-below : get_or latests q 0 < n
   pub light : (v : ℕ) → v < n → is_open weights steps blockeds latests q v ≡ true → arc_at weights steps blockeds latests q v ≤ heaviest
 
 -- They have one for each of m states, and steps lead to these.
@@ -33,8 +34,14 @@ module _ {g : Graph} {F : List (List ℕ)} {m : ℕ} {steps blockeds latests wei
       steps_row = omega (arith, built.steps_room);
       blockeds_row = omega (arith, built.blockeds_room);
       latests-row = omega (arith, built.latests-room);
-      latest-below = omega (arith, built.stands q h, stands-below built q h, table.few);
+      latest-below = omega (arith, built.stands q h, stands-below built q h);
       light = λ v k o. let (is, light) = step-weight built table q v h (open_step built table q v h k o) in omega arith;
     };
     state-below = λ q v h k. step-below built table q v h k;
   }
+
+-- The edges then join the states.
+pub fits-within : {n m : ℕ} {weights steps blockeds latests : List ℕ} → Fits n m weights steps blockeds latests → Within m (state_edges weights steps blockeds latests n m)
+fits-within {n} {m} {weights} {steps} {blockeds} {latests} f e i =
+    let r = edges-over weights steps blockeds latests n m e i in
+    rw r.edge (r.state-below, f.state-below r.state r.vertex r.state-below r.vertex-below)

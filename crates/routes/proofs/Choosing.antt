@@ -1,10 +1,18 @@
 -- What `usable` has done when it is at vertex v, and what one turn of its loop does.
-use Rattle.std.proofs.Common.{Bool, true, false, ◌&&◌, ◌≡◌, ◌≢◌, refl, sym, ap, ◌∙◌, ℕ, suc, ◌+◌, ◌*◌, ◌/◌, ◌%◌, ◌^◌, ◌<◌, ◌≤◌, eqb, eq-eqb, ne_eqb, add-one, pow-suc, arith}
-use native.Mathlib.Nat.{div-one, one-mul, mod-eq_of_lt}
-use lib.Pow.{pow_mono, pow-lt}
-use Rattle.product.proofs.Filling.{next-half}
-use Rattle.routes.specs.Word.{word}
-use Rattle.routes.proofs.Word.{word_lt}
+use Rattle.std.proofs.Common.{Bool, true, false, not, List, ◌&&◌, ◌≡◌, ◌≢◌, refl, sym, ap, ◌∙◌, ℕ, ◌+◌, ◌*◌, ◌/◌, ◌%◌, ◌^◌, ◌<◌, eqb, eq-eqb, ne_eqb, get_or, add-one, pow-suc}
+use native.Mathlib.Nat.{div-one, div-div-eq-div-mul}
+use Rattle.limits.specs.Limits.{no_arc}
+use Rattle.product.specs.Product.{arc_at, is_open}
+use Rattle.product.specs.Word.{word}
+use Rattle.product.proofs.Marking.{marked-in, marked-out, marked-fits}
+
+-- The bits that are left after v halvings have the bit of v at their lowest place.
+next-half : (x v : ℕ) → x / 2 ^ v / 2 ≡ x / 2 ^ (v + 1)
+next-half x v = div-div-eq-div-mul x (2 ^ v) 2 ∙ ap (λ y. x / y) (sym (ap (λ y. 2 ^ y) (add-one v) ∙ pow-suc 2 v))
+
+pub open_test : (weights steps blockeds latests : List ℕ) (q v left : ℕ) → left ≡ get_or blockeds q 0 / 2 ^ v
+    → not (eqb (arc_at weights steps blockeds latests q v) no_arc) && eqb (left % 2) 0 ≡ is_open weights steps blockeds latests q v
+open_test weights steps blockeds latests q v left e = ap (λ x. not (eqb (arc_at weights steps blockeds latests q v) no_arc) && eqb (x % 2) 0) e
 
 pub record Choosing (p : ℕ → Bool) (bits left chosen v : ℕ) : Type 0 where
   pub left_is : left ≡ bits / 2 ^ v
@@ -14,26 +22,15 @@ pub choosing_none : (p : ℕ → Bool) (bits : ℕ) → Choosing p bits bits 0 0
 unfolding word
 choosing_none p bits = record { left_is = sym (div-one bits); chosen_is = refl }
 
--- The bit of a vertex below 64, as a shift of 1 gives it.
-shifted : (v : ℕ) → v < 64 → (1 * 2 ^ v) % 2 ^ 64 ≡ 2 ^ v
-shifted v h =
-    let fits : 2 ^ v < 2 ^ 64 = pow-lt h in
-    ap (λ x. x % 2 ^ 64) (one-mul (2 ^ v)) ∙ mod-eq_of_lt fits
-
 module _ {p : ℕ → Bool} {bits left chosen v : ℕ} (c : Choosing p bits left chosen v) where
   pub choosing_in : v < 64 → p v ≡ true → Choosing p bits (left / 2) (chosen + (1 * 2 ^ v) % 2 ^ 64) (v + 1)
-  unfolding word
-  choosing_in b h = record { left_is = ap (λ x. x / 2) c.left_is ∙ next-half bits v; chosen_is = rw (shifted v b, add-one v, h, c.chosen_is) refl }
+  choosing_in b h = record { left_is = ap (λ x. x / 2) c.left_is ∙ next-half bits v; chosen_is = marked-in p c.chosen_is b h }
 
   pub choosing_out : p v ≡ false → Choosing p bits (left / 2) chosen (v + 1)
-  unfolding word
-  choosing_out h = record { left_is = ap (λ x. x / 2) c.left_is ∙ next-half bits v; chosen_is = rw (add-one v, h, c.chosen_is) refl }
+  choosing_out h = record { left_is = ap (λ x. x / 2) c.left_is ∙ next-half bits v; chosen_is = marked-out p c.chosen_is h }
 
-  -- The word has room for the bit of v.
   pub chosen-fits : v < 64 → chosen + (1 * 2 ^ v) % 2 ^ 64 < 2 ^ 64
-  chosen-fits b =
-      let double : 2 ^ suc v ≤ 2 ^ 64 = pow_mono b in
-      rw (shifted v b) (omega (arith, c.chosen_is, word_lt p v, pow-suc 2 v))
+  chosen-fits = marked-fits p c.chosen_is
 
 -- The test of a usable vertex by its parts: it is open, and the entry falls.
 pub usable-yes : {o : Bool} {x y : ℕ} → o ≡ true → x ≡ y → o && eqb x y ≡ true

@@ -1,6 +1,5 @@
 pub mod Choosing
 pub mod Walking
-pub mod Word
 pub mod Route
 pub mod Guiding
 pub mod Planned

@@ -19,8 +19,8 @@ use Rattle.states.specs.Cost.{Cost, via, cost_of}
 use Rattle.states.specs.Greedy.{Usable, Greedy}
 use Rattle.states.proofs.Greedy.{greedy_cost, greedy_best, settled-none}
 use Rattle.automaton.specs.Built.{Built}
-use Rattle.routes.specs.Word.{Lowest}
-use Rattle.routes.proofs.Word.{word-lowest}
+use Rattle.product.specs.Word.{Lowest}
+use Rattle.product.proofs.Word.{word-lowest}
 use Rattle.walks.specs.Weights.{Weights}
 use Rattle.product.specs.Product.{arc_at, step_to, is_open, state_edges}
 use Rattle.product.specs.ProductLaws.{word_of, Numbered, word-numbered, open_step, step_open, step-number, step-below, step-weight}

@@ -1,5 +1,4 @@
--- Meaning: Plan (what a plan is in the lent area); for this crate's contracts Word (sets of vertices as words) and View (a Product's tables as the definitions take them). The others define what laws speak of; the laws are in proofs/.
-pub mod Word
+-- Meaning: Plan (what a plan is in the lent area); for this crate's contracts View (a Product's tables as the definitions take them). The others define what laws speak of; the laws are in proofs/.
 pub mod Distance
 pub mod Route
 pub mod Guiding

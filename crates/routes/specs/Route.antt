@@ -5,7 +5,7 @@ use Prim.Native.Nat.{ℕ, zero, suc, ◌+◌, ◌%◌, ◌<◌}
 use Rattle.std.specs.Int.Count.{count_trailing_zeros}
 use Rattle.distances.specs.Table.{at}
 use Rattle.distances.specs.Pack.{pack, hops_limit}
-use Rattle.routes.specs.Word.{word}
+use Rattle.product.specs.Word.{word}
 use Rattle.product.specs.Product.{arc_at, step_to, is_open}
 
 module _ (weights steps blockeds latests d : List ℕ) where

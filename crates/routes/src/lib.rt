@@ -1,24 +1,31 @@
 // The best walk, read off a table of distances.
 #![tactic(auto)]
 
-ghost use Rattle.std.specs.Prelude.{◌≡◌, true, List, [], ◌∷◌, ◌++◌, ℕ, ◌%◌, ◌<◌, ◌≤◌, length, drop};
+ghost use Rattle.std.specs.Prelude.{◌≡◌, true, not, ◌&&◌, eqb, List, [], ◌∷◌, ◌++◌, ℕ, ◌%◌, ◌<◌, ◌≤◌, length, drop};
 ghost use Rattle.walks.specs.Graph.{Graph};
 ghost use Rattle.walks.specs.Avoid.{Avoids};
 ghost use Rattle.distances.specs.Table.{at, inf};
 ghost use Rattle.distances.specs.Pack.{hops_limit};
-ghost use Rattle.limits.specs.Limits.{longest};
+ghost use Rattle.limits.specs.Limits.{longest, no_arc};
 ghost use Rattle.routes.specs.View.{NodeOf, GuidingOf, MeasuredOf, usable_of, next_of, walk_of};
 ghost use Rattle.routes.specs.Plan.{Searched};
 
 use distances::{HOPS, INF};
-use limits::MOST_VERTICES;
-use product::{Product, is_open};
+use limits::{MOST_VERTICES, NO_ARC};
+use product::Product;
 
 // A walk that stands in an area has that weight (01: litres) and as many arcs (01: changeovers).
 #[derive(Clone, Copy, PartialEq, Eq, Debug)]
 pub struct Plan {
     pub weight: u64,
     pub hops: usize,
+}
+
+// Whether there is an arc of that weight, and the lowest of the blocked bits is not set.
+fn is_open(weight: u32, bits: u64) -> bool
+    ensures { result ≡ not (eqb weight no_arc) && eqb (bits % 2) 0 }
+{
+    weight != NO_ARC && bits % 2 == 0
 }
 
 // The usable vertices at state q as a word: those over which the entry falls by the arc and one hop.

@@ -10,7 +10,6 @@ ghost use Rattle.limits.specs.Limits.{longest, most_vertices};
 ghost use Rattle.routes.specs.Plan.{Asked, SearchedAll};
 
 use automaton::{Automaton, PREFIXES, STATES, STEPS};
-use distances::{Edge, INF};
 use limits::MOST_VERTICES;
 use measuring::Work;
 use product::{Goal, Product};
@@ -18,7 +17,7 @@ use routes::{Plan, least_walk};
 use walks::{ArcTable, PathArea};
 
 // How many states and steps there are for a usual book at most (01: 30 grades, 20 runs). Work tables are cleared before use, and to
-// clear those for all states would take longer than a usual search.
+// clear those for all states would take as long as a usual search.
 const USUAL_STATES: usize = 160;
 
 const USUAL_STEPS: usize = USUAL_STATES * MOST_VERTICES;
@@ -37,7 +36,7 @@ fn search_in<const S: usize, const T: usize>(
     requires steps_fit { T ≡ S * most_vertices }
     ensures { SearchedAll arcs.entry.weights.now arcs.entry.vertices paths.entry.bytes.now paths.entry.count start end walk.old result walk.new }
 {
-    // written out here and in `end_search`: handed back by a function (tried) the tables are copied, at up to 1.5 million instructions a plan
+    // written out here and in `end_search`: handed back by a function (tried) the tables are copied
     let mut work = Work::<S, T> {
         automaton: Automaton {
             steps: [0; T],
@@ -45,19 +44,12 @@ fn search_in<const S: usize, const T: usize>(
             latest: [0; S],
             fail: [0; S],
         },
-        edges: [Edge {
-            tail: 0,
-            head: 0,
-            cost: 0,
-        }; T],
-        first: [0; S],
-        next: [0; T],
-        seen: [INF; S],
         table: [0; S],
+        other: [0; S],
     };
-    let states = work.measure(arcs, paths, Goal::To(end));
+    let measures = work.measure(arcs, paths, Goal::To(end));
     let product = Product::of(arcs, &work.automaton);
-    least_walk(product, start, &work.table[..states], walk)
+    least_walk(product, start, &work.table[..measures.states], walk)
 }
 
 // Writes the best walk from start to end that avoids the forbidden paths into the front of the area `walk`, and answers its

@@ -486,6 +486,13 @@ pub fn line(grades: u8, upward: bool, litres: u32) -> Draft {
     draft
 }
 
+/// The same way, and from its end back to its start; two grades or more.
+pub fn ring(grades: u8, upward: bool, litres: u32) -> Draft {
+    let last = grades - 1;
+    let (from, to) = if upward { (last, 0) } else { (0, last) };
+    line(grades, upward, litres).changeover(from, to, litres)
+}
+
 /// A draft's book, for generators that go on from what it says.
 pub fn read(draft: &Draft) -> Book {
     match book::read(&draft.bytes()) {

@@ -9,6 +9,7 @@ use crate::damage::damaged;
 use crate::draft::Draft;
 use crate::generate::{self, Size};
 use crate::kinds::Kind;
+use crate::pass_inputs;
 use crate::plan::LINEUP_AREA;
 use crate::programs::{Report, Trials, MOST_INPUT};
 use crate::random::Random;
@@ -26,6 +27,7 @@ pub fn case(kind: Kind, seed: u64, index: u64) -> Vec<u8> {
         Kind::Any(call) => any_inputs::case(random, call),
         Kind::Board => board_case(random),
         Kind::AnyTable => table_inputs::case(random),
+        Kind::Passes => pass_inputs::case(random),
     }
 }
 
@@ -89,7 +91,7 @@ fn line_scene(random: &mut Random) -> Scene {
 }
 
 /// A book's bytes, damaged so often in a hundred.
-fn book_bytes(random: &mut Random, draft: &Draft, percent: usize) -> Vec<u8> {
+pub(crate) fn book_bytes(random: &mut Random, draft: &Draft, percent: usize) -> Vec<u8> {
     if random.chance(percent) {
         damaged(random, draft)
     } else {
@@ -133,7 +135,7 @@ fn plan_case(random: &mut Random) -> Vec<u8> {
 
 /// Now and then shorter than a book can be, or longer than the bytes that are
 /// read.
-fn other_length(random: &mut Random, input: &mut Vec<u8>) {
+pub(crate) fn other_length(random: &mut Random, input: &mut Vec<u8>) {
     match random.below(250) {
         0..=2 => input.truncate(random.below(6)),
         3 => input.resize(MOST_INPUT + random.below(3), random.below(5) as u8),

@@ -15,9 +15,10 @@ pub enum Kind {
     Board,
     /// One call that fills a table, with areas of any length and content.
     AnyTable,
+    Passes,
 }
 
-pub const KINDS: [Kind; 12] = [
+pub const KINDS: [Kind; 13] = [
     Kind::ReadBook,
     Kind::CheckLineup,
     Kind::Replay,
@@ -30,6 +31,7 @@ pub const KINDS: [Kind; 12] = [
     Kind::Any(Call::Failed),
     Kind::Board,
     Kind::AnyTable,
+    Kind::Passes,
 ];
 
 impl Kind {
@@ -48,6 +50,7 @@ impl Kind {
             Kind::Any(Call::Failed) => "any_failed_report",
             Kind::Board => "board",
             Kind::AnyTable => "any_table",
+            Kind::Passes => "passes",
         }
     }
 
@@ -58,10 +61,15 @@ impl Kind {
 
     /// The name of a framed stream of such cases.
     pub fn stream_name(self) -> String {
-        format!("{}s", self.name())
+        match self {
+            // Already has an s.
+            Kind::Passes => String::from("books_passes"),
+            _ => format!("{}s", self.name()),
+        }
     }
 
-    /// The first byte of a frame with such a case.
+    /// The first byte of a frame with such a case. 12 is none: stored frames have it
+    /// as a kind that there is not.
     pub fn byte(self) -> u8 {
         match self {
             Kind::ReadBook => 0,
@@ -71,6 +79,7 @@ impl Kind {
             Kind::Any(call) => 4 + call as u8,
             Kind::Board => 10,
             Kind::AnyTable => 11,
+            Kind::Passes => 13,
         }
     }
 
@@ -96,6 +105,7 @@ impl Kind {
             Kind::Any(call) => calls::run(call, case),
             Kind::Board => programs::board(case),
             Kind::AnyTable => tables::run(case),
+            Kind::Passes => programs::passes(case),
         }
     }
 }

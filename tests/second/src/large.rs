@@ -29,7 +29,7 @@ pub fn largest_board(random: &mut Random) -> Vec<u8> {
     board_input(generate::batch_marks(random), start, &draft.bytes())
 }
 
-fn largest_book(random: &mut Random) -> Draft {
+pub(crate) fn largest_book(random: &mut Random) -> Draft {
     if random.chance(25) {
         generate::largest(random)
     } else {
@@ -39,7 +39,7 @@ fn largest_book(random: &mut Random) -> Draft {
 
 /// A largest book whose plans go far: of its changeovers few are cheap, and its
 /// runs stand along these.
-fn largest_winding(random: &mut Random) -> Draft {
+pub(crate) fn largest_winding(random: &mut Random) -> Draft {
     let grades = MOST_GRADES as u8;
     let cheap_litres = random.pick(&[vec![0], vec![1], vec![0, 1, 2], vec![1, 2, 3, 1_000]]);
     let dear_litres = random.pick(&[vec![1_000_000], vec![999_999, 1_000_000], vec![5_000]]);

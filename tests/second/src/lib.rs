@@ -1,11 +1,11 @@
-//! A second fuel-sequence planner, written from paper 01 and orders 1 and 2 of paper 02
+//! A second fuel-sequence planner, written from paper 01 and orders 1 to 3 of paper 02
 //! alone, and the random books, vectors and comparisons that hold another planner against it.
 //!
 //! The planner: `book`, `changeovers`, `binding`, `check`, `plan`, `board`,
-//! `trials`, `text`, `programs`, `calls`, `tables` and `lists`. Its own check:
+//! `passes`, `trials`, `text`, `programs`, `calls`, `tables` and `lists`. Its own check:
 //! `exhaustive`. What feeds tests: `random`, `draft`, `generate`, `damage`,
-//! `inputs`, `faults`, `any_inputs`, `table_inputs`, `list_inputs`, `large`,
-//! `sources`, `samples`, `vectors`, `frames` and `kinds`.
+//! `inputs`, `faults`, `any_inputs`, `table_inputs`, `pass_inputs`, `list_inputs`,
+//! `large`, `sources`, `samples`, `vectors`, `frames` and `kinds`.
 
 #![forbid(unsafe_code)]
 
@@ -27,6 +27,8 @@ pub mod kinds;
 pub mod large;
 pub mod list_inputs;
 pub mod lists;
+pub mod pass_inputs;
+pub mod passes;
 pub mod plan;
 pub mod programs;
 pub mod random;

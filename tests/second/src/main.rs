@@ -16,7 +16,7 @@ const USAGE: &str = "usage: second KIND                     one case
        second input NAME SEED          an input for `plan`
        second inputs NAME SEED COUNT   a framed stream of such inputs, of COUNT seeds
 KIND is plan, board, replay, check_lineup, read_book, any_bind, any_check, any_plan, any_begin,
-any_passed_report, any_failed_report or any_table.
+any_passed_report, any_failed_report, any_table or passes.
 NAME is typical, largest, chain, upward, downward or winding.";
 
 fn main() -> ExitCode {

@@ -4,12 +4,13 @@ use crate::binding::{self, RUNS_AREA};
 use crate::board;
 use crate::book;
 use crate::check;
+use crate::passes;
 use crate::plan::{self, LINEUP_AREA};
 use crate::refusal::Refusal;
 use crate::text;
 use crate::trials::{self, Record};
 
-/// The most bytes of its input that `plan`, `board` and `read_book` look at.
+/// The most bytes of its input that `plan`, `board`, `passes` and `read_book` look at.
 pub const MOST_INPUT: usize = 65_536;
 
 /// Input that is shorter than its own fixed part or its lengths say.
@@ -47,6 +48,14 @@ fn board_text(input: &[u8]) -> Result<String, Refusal> {
     }
     let runs = binding::known_runs(&book, marks);
     Ok(text::board(&board::ends(&book.changeovers, &runs, start)))
+}
+
+/// 02's passes: one book.
+pub fn passes(input: &[u8]) -> String {
+    match book::read(first_bytes(input)) {
+        Ok(book) => text::passes(&passes::counts(&book.changeovers)),
+        Err(refused) => text::refusal(refused),
+    }
 }
 
 /// `check_lineup`: marks, the line-up's length in two bytes, the line-up, the

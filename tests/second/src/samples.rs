@@ -9,6 +9,7 @@ use crate::inputs::{
     self, board_input, check_lineup_input, failed_bytes, plan_input, replay_input,
 };
 use crate::kinds::Kind;
+use crate::pass_inputs;
 use crate::random::Random;
 use crate::table_inputs;
 
@@ -23,6 +24,7 @@ pub fn cases(kind: Kind, seed: u64) -> Vec<Vec<u8>> {
         Kind::Any(call) => any_inputs::chosen(random, call),
         Kind::Board => board_cases(random),
         Kind::AnyTable => table_inputs::chosen(random),
+        Kind::Passes => pass_inputs::chosen(random),
     }
 }
 
@@ -108,11 +110,11 @@ fn read_book_cases(random: &mut Random) -> Vec<Vec<u8>> {
 }
 
 /// All proper beginnings of a book, and the whole.
-fn cuts(bytes: &[u8]) -> Vec<Vec<u8>> {
+pub(crate) fn cuts(bytes: &[u8]) -> Vec<Vec<u8>> {
     (0..=bytes.len()).map(|length| bytes[..length].to_vec()).collect()
 }
 
-fn drafts_at_boundaries() -> Vec<Draft> {
+pub(crate) fn drafts_at_boundaries() -> Vec<Draft> {
     let mut drafts: Vec<Draft> = vec![book_a(), book_a_other_order(), book_of_ties()];
     drafts.extend(books_with_runs_that_come_back());
     drafts.extend([0, 1, 2, 63, 64, 65, 128, 255].map(Draft::new));
@@ -291,7 +293,7 @@ fn plan_cases(random: &mut Random) -> Vec<Vec<u8>> {
 }
 
 /// The books of 01's settled sums on plans, and books with runs that come back.
-fn books_of_sums() -> Vec<Draft> {
+pub(crate) fn books_of_sums() -> Vec<Draft> {
     let with_short_way = book_of_ties().changeover(0, 3, 200);
     let mut books = vec![book_a(), book_a_other_order(), book_of_ties(), with_short_way];
     books.extend(books_with_runs_that_come_back());

@@ -2,6 +2,7 @@
 
 use crate::book::Book;
 use crate::check::Found;
+use crate::passes::Counts;
 use crate::plan::{Answer, Plan};
 use crate::refusal::Refusal;
 use crate::trials::{Record, NONE};
@@ -30,6 +31,23 @@ pub fn board(ends: &[Option<Answer>]) -> String {
         Some(Answer { litres, changes }) => format!("{grade} LITRES {litres} CHANGES {changes}\n"),
     };
     ends.iter().enumerate().map(line).collect()
+}
+
+/// What stands at the end of a line with more passes than 02 allows.
+const OVER: &str = " OVER";
+
+/// A line for each end in rising order.
+pub fn passes(counts: &Counts) -> String {
+    let line = |(end, &passes): (usize, &usize)| {
+        let over = if counts.is_over(passes) { OVER } else { "" };
+        format!("END {end} PASSES {passes} MOST {}{over}\n", counts.most)
+    };
+    counts.passes.iter().enumerate().map(line).collect()
+}
+
+/// The first line that says so, if any.
+pub fn over(printed: &str) -> Option<&str> {
+    printed.lines().find(|line| line.ends_with(OVER))
 }
 
 pub fn check(found: Option<Found>) -> String {

@@ -2,11 +2,13 @@
 //! ones.
 
 use crate::frames;
+use crate::generate;
 use crate::inputs;
 use crate::kinds::{Kind, KINDS};
 use crate::list_inputs;
 use crate::lists;
 use crate::programs::MOST_INPUT;
+use crate::random::Random;
 use crate::samples;
 
 /// How many random cases follow the chosen ones.
@@ -19,6 +21,7 @@ fn random_cases(kind: Kind) -> u64 {
         Kind::Any(_) => 40,
         Kind::Board => 500,
         Kind::AnyTable => 150,
+        Kind::Passes => 300,
     }
 }
 
@@ -74,7 +77,7 @@ pub fn stored(seed: u64, folder: &str) -> Vec<Stored> {
             note: lists_note(seed) + &origin(seed, folder),
         },
     ];
-    list.extend(single_cases().into_iter().map(|(kind, case, note)| Stored {
+    list.extend(single_cases(seed).into_iter().map(|(kind, case, note)| Stored {
         program: kind.name(),
         stdout: kind.run(&case),
         stdin: case,
@@ -88,7 +91,7 @@ pub fn stored(seed: u64, folder: &str) -> Vec<Stored> {
 }
 
 /// A case of each program that takes one, with what it is.
-fn single_cases() -> Vec<(Kind, Vec<u8>, &'static str)> {
+fn single_cases(seed: u64) -> Vec<(Kind, Vec<u8>, &'static str)> {
     let book = samples::book_a().bytes();
     let reports = [inputs::failed_bytes(&[1, 2, 3]), inputs::failed_bytes(&[1, 3]), vec![0]];
     vec![
@@ -113,6 +116,11 @@ fn single_cases() -> Vec<(Kind, Vec<u8>, &'static str)> {
             "one case of `replay`: marks 3, start 0, end 3 and book A, then the reports of\n\
              paper 01's settled sums, named 1 2 3 and named 1 3, and then passed, which is refused\n\
              since the trials are over",
+        ),
+        (
+            Kind::Passes,
+            generate::typical(&mut Random::new(&[seed])).bytes(),
+            "one case of `passes`: a book of 30 grades",
         ),
     ]
 }

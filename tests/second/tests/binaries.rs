@@ -80,6 +80,7 @@ fn wrong_words_fail() {
         (COMPARE, &["long_plans", "5", "1", "--", SECOND, "plan"]),
         (COMPARE, &["long_boards", "5", "1", "--", SECOND, "board"]),
         (COMPARE, &["plan_list", "5", "1", "--", SECOND, "plan_lists"]),
+        (COMPARE, &["passess", "5", "1", "--", SECOND, "frames"]),
         (COMPARE, &["--trickle", "0", "plan", "5", "1", "--", SECOND, "plan"]),
         (VECTORS, &["1"]),
         (VECTORS, &["plan", "/tmp"]),
@@ -101,11 +102,11 @@ fn vectors_writes_three_files_for_each_program() {
     let stream = lists::join(&list_inputs::stored(4));
     assert_eq!(read("plan_list", "stdin"), stream);
     assert_eq!(read("plan_list", "stdout"), lists::run(&stream).into_bytes());
-    for kind in [Kind::Plan, Kind::Board, Kind::CheckLineup, Kind::Replay] {
+    for kind in [Kind::Plan, Kind::Board, Kind::CheckLineup, Kind::Replay, Kind::Passes] {
         let case = read(kind.name(), "stdin");
         assert_eq!(read(kind.name(), "stdout"), kind.run(&case).into_bytes());
     }
-    for program in ["frames", "plan_list", "plan", "board", "check_lineup", "replay"] {
+    for program in ["frames", "plan_list", "plan", "board", "check_lineup", "replay", "passes"] {
         let note = String::from_utf8(read(program, "VECTORS.txt")).unwrap();
         assert!(note.contains(&format!("--bin vectors -- 4 {name}\n")), "{note}");
     }
@@ -162,6 +163,19 @@ fn compare_reports_each_difference() {
         assert!(
             text(&run(COMPARE, &words, &[])).ends_with("plan: 2 inputs of seed 2, 2 different\n")
         );
+    }
+}
+
+/// A line with too many passes, by itself and in a stream.
+#[test]
+fn compare_reports_too_many_passes() {
+    let over = "END 0 PASSES 3 MOST 1 OVER";
+    let script = format!("cat >/dev/null; echo '{over}'");
+    for name in ["passes", "books_passes"] {
+        let output = run(COMPARE, &[name, "1", "2", "--", "sh", "-c", &script], &[]);
+        assert!(!output.status.success());
+        let line = format!("DIFFERENT {name} seed 2 index 0: too many passes: {over:?}\n");
+        assert!(text(&output).starts_with(&line), "{}", text(&output));
     }
 }
 

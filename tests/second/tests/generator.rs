@@ -92,6 +92,8 @@ fn vectors_are_complete() {
     check(Kind::Board, 600, 1_000_000, &with(&board));
     let table = ["FILLED 4", "FILLED 1", "TABLE 1 ", "REFUSED 7", "REFUSED 8", "REFUSED 9"];
     check(Kind::AnyTable, 200, 500_000, &[&table[..], &["REFUSED 1 "]].concat());
+    let passes = ["END 0 PASSES 1 MOST 0", "END 63 PASSES 64 MOST 63", "END 63 PASSES 2 MOST 1"];
+    check(Kind::Passes, 600, 500_000, &with(&passes));
     let any = |call, answers: &[&str]| check(Kind::Any(call), 100, 500_000, answers);
     any(Call::Bind, &["KNOWN 2", "RUNS ", "REFUSED 1 ", "REFUSED 8"]);
     any(Call::Check, &["CLEAR", "RUN AT ", "REFUSED 1 ", "REFUSED 8", "REFUSED 9", "REFUSED 10"]);

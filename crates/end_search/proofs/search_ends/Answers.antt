@@ -6,8 +6,8 @@ use Rattle.measuring.specs.Work.{blank_work}
 use Rattle.ends.proofs.Filled.{measured_standing, measured_ends}
 use Rattle.end_search.proofs.search_ends.Goals as goal
 
-pub measure-states-requires : goal.measure-states-requires
-measure-states-requires c =
+pub measure-measures-requires : goal.measure-measures-requires
+measure-measures-requires c =
     let given = c.requires.given in
     (lit< tt, (given, (c.requires.weighed, blank_work _ most_states _ (few-states c.args.arcs.vertices c.args.paths.count given.bounded.few-vertices (omega (arith, given.spells.paths, given.bounded.few))) refl)))
 
@@ -15,9 +15,9 @@ pub fill_ends-requires-clause-standing : goal.fill_ends-requires-clause-standing
 fill_ends-requires-clause-standing c =
     let given = c.requires.given in
     let (graph, count-is, weighed) = c.requires.weighed in
-    measured_standing (c.measure-states.ensures.measured_all graph given.paths count-is weighed given.spells given.bounded)
+    measured_standing (c.measure-measures.ensures.measured_all graph given.paths count-is weighed given.spells given.bounded)
 
 pub returns : goal.returns
 returns c graph F count-is weighed spells bounded =
     c.fill_ends.ensures
-    ∙ ap (λ l. l ++ drop (2 * c.args.arcs.vertices) c.args.ends.now) (measured_ends (c.measure-states.ensures.measured_all graph F count-is weighed spells bounded) bounded c.requires.start_below)
+    ∙ ap (λ l. l ++ drop (2 * c.args.arcs.vertices) c.args.ends.now) (measured_ends (c.measure-measures.ensures.measured_all graph F count-is weighed spells bounded) bounded c.requires.start_below)

@@ -1,7 +1,6 @@
 -- Vertex v is in the word exactly if it is open and the entry falls over it.
 use Rattle.std.proofs.Common.{sym, ◌∙◌, arith}
-use Rattle.product.proofs.Filling.{open_test}
-use Rattle.routes.proofs.Choosing.{choosing_none, choosing_in, choosing_out, chosen-fits, usable-yes, usable_dear, usable_shut}
+use Rattle.routes.proofs.Choosing.{open_test, choosing_none, choosing_in, choosing_out, chosen-fits, usable-yes, usable_dear, usable_shut}
 use Rattle.routes.proofs.usable.Goals as goal
 use Rattle.routes.proofs.usable.Goals.{then-is_open+then-table-r, then-is_open+else-table-r, else-is_open}
 

@@ -1,11 +1,13 @@
 //! `compare KIND N SEED -- COMMAND WORDS...` runs a program on N random inputs
 //! of a seed and reports each difference from this package's answers. A run
-//! that takes too long is ended, and ends the comparison.
+//! that takes too long is ended, and ends the comparison. An answer with more
+//! passes than 02 allows counts as a difference, whatever was expected.
 //! With `--trickle BYTES` the input comes a few bytes at a time.
 //! `compare --show KIND SEED INDEX` prints one of these inputs.
 
 use second::programs::MOST_INPUT;
 use second::sources::Source;
+use second::text;
 use second::vectors;
 use std::io::{self, Read, Write};
 use std::process::{Child, Command, ExitCode, ExitStatus, Stdio};
@@ -16,9 +18,10 @@ const USAGE: &str =
     "usage: compare [--limit SECONDS] [--trickle BYTES] KIND N SEED -- COMMAND WORDS...
        compare --show KIND SEED INDEX
 KIND is plan, board, replay, check_lineup, read_book, any_bind, any_check, any_plan, any_begin,
-any_passed_report, any_failed_report, any_table, largest_plan, largest_board, long_plan or
-long_board: one process for each input;
-or one of these with an s behind it, except the long ones: framed streams of inputs;
+any_passed_report, any_failed_report, any_table, passes, largest_plan, largest_board, long_plan
+or long_board: one process for each input;
+or one of these with an s behind it, except the long ones and passes, or books_passes: framed
+streams of inputs;
 or plan_lists: framed streams of lists.";
 
 /// How many cases a framed stream holds at most.
@@ -174,10 +177,7 @@ impl<'a> Task<'a> {
     fn difference(&self, input: &[u8], expected: &str) -> Option<Difference> {
         let text = match self.run(input) {
             Ok(Run::Ended(status, _)) if !status.success() => format!("ended with {status}"),
-            Ok(Run::Ended(_, output)) if output == expected.as_bytes() => return None,
-            Ok(Run::Ended(_, output)) => {
-                first_difference(expected, &String::from_utf8_lossy(&output))
-            }
+            Ok(Run::Ended(_, output)) => fault(expected, &String::from_utf8_lossy(&output))?,
             Ok(Run::Hangs) => {
                 let seconds = self.limit.as_secs();
                 let text = format!("hangs: still running after {seconds} s, and ended");
@@ -204,6 +204,15 @@ impl<'a> Task<'a> {
                 Ok(Run::Ended(status, output))
             }
         }
+    }
+}
+
+/// What is wrong with an output, if anything.
+fn fault(expected: &str, got: &str) -> Option<String> {
+    match text::over(got) {
+        Some(line) => Some(format!("too many passes: {}", shown(line))),
+        None if got == expected => None,
+        None => Some(first_difference(expected, got)),
     }
 }
 

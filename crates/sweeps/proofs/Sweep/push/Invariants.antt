@@ -1,0 +1,14 @@
+-- The edges over the vertices below `next` have lowered entries; the others are left.
+use Rattle.std.proofs.Common.{◌≡◌, ℕ}
+use Rattle.distances.specs.Reverse.{swapped}
+use Rattle.distances.specs.Table.{relaxes}
+use Rattle.product.specs.Visit.{Ahead}
+use Rattle.product.specs.View.{open_at, edges_below}
+use Rattle.sweeps.proofs.Sweep.push.Given as goal
+
+abbrev pub invariant-loop-left : goal.invariant-loop-left
+invariant-loop-left l =
+    (next : ℕ) × Ahead (open_at l.self.product l.q) l.self.product.arcs.vertices next l.left × (l.new ≡ relaxes l.old (swapped (edges_below l.self.product l.q next)) l.fn.new)
+
+abbrev pub decreases-loop-left : goal.decreases-loop-left
+decreases-loop-left l = l.left
