@@ -349,8 +349,8 @@ pub record Order2 : Type 0 where
 -- ==== Passes that end with the first that changes none (02, order 3)
 -- Distances are worked out in passes over all edges of a graph of states. An entry is litres and changeovers in one number (`pack`), or `inf` while no path is known, so
 -- that a pass which changes neither leaves the table as it is. `pass es t` is the table after a pass: over every edge of es once, each from the table t alone.
--- `after_passes es k t` is that after k passes. In a graph of n states `made es n t` of them are made, by the contracts of `sweeps::distances` and
--- `measuring::Work::measure`, which planning and the table of ends call; and by the same contracts the table that is left is that after n passes.
+-- `after_passes es k t` is that after k passes. In a graph of n states the contracts of `sweeps::distances` and `measuring::Work::measure`, through which planning and
+-- the table of ends work their distances out, answer `made es n t` as the number of passes; and by the same contracts the table that is left is that after n passes.
 
 -- What a distance is, under the forbidden runs F: litres and changeovers of the best line-up, or that there is none. Changeovers are below the limit of packing, and the
 -- number below `inf`, so that it tells which of the two, and both can be read off it.
@@ -408,7 +408,7 @@ pub record Order3 : Type 0 where
   pub tables : (s : List ℕ) (b : Book) → reading s ≡ accepted b → (paths : List ℕ) → area_size ≤ length paths → Valid b.count paths 0
       → (end r H : ℕ) → end < b.count → Counted (graph b) end r
       → ((start : ℕ) → start < b.count → EntryWithin s b paths start end H) → r ≤ suc H
-  -- ... so with the number that the test prints as the most changeovers (`most_from`): it never prints OVER.
+  -- ... so with the number that the test program counts as the most changeovers (`most_from`): there is never more than one pass over it.
   pub test : (s : List ℕ) (b : Book) → reading s ≡ accepted b → (end r : ℕ) → end < b.count → Counted (graph b) end r → r ≤ suc (most_from s b.count b.count)
 
 -- ==== Demand 3

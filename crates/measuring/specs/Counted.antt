@@ -6,7 +6,7 @@ use Rattle.product.specs.Product.{state_edges}
 use Rattle.product.specs.Base.{base, directed}
 use Rattle.routes.specs.Plan.{Prepared}
 
--- There are tables of the graph and of the automaton of no forbidden paths, over whose edges r passes were made to t.
+-- There are tables of the graph and of the automaton of no forbidden paths, over whose edges r passes are made to t.
 pub record Counted (g : Graph) (t r : ℕ) : Type 0 where
   pub m : ℕ
   pub weights : List ℕ

@@ -1,7 +1,8 @@
 // The distances of the product's states, in passes over all states and their open vertices.
 //
 // There are two tables, which take turns: a pass leaves in one what a pass makes of the other. It reads the other at the heads of edges, and
-// lowers what it finds in the one that it writes: entries of the pass before the last, and to lower those comes to the same as to lower a copy.
+// lowers what it finds in the one that it writes: entries of two passes before (in the first pass the same as in the other), and to lower those
+// comes to the same as to lower a copy of the other.
 #![tactic(auto)]
 
 ghost use Rattle.std.specs.Prelude.{◌≡◌, ℕ, ◌<◌, ◌≤◌, not, length};
