@@ -12,7 +12,8 @@ use Rattle.book.specs.RefusalLaws.{Fails, Hold}
 use Rattle.book.proofs.RefusalLaws.{first-fails, hold→none}
 use Rattle.book.specs.Book.{Book, graph}
 use Rattle.book.specs.Reading.{accepted, reading, refusal_of, book_in}
-use Rattle.rules.specs.Binding.{known}
+use Rattle.rules.specs.Binding.{batch_at, known}
+use Rattle.rules.specs.declared.Batch.{Batch}
 use Rattle.routes.specs.declared.Plan.{Plan}
 use Rattle.routes.specs.Plan.{PlannedWalk, Searched}
 use Rattle.text.specs.Text.{longest_text, plan_text, walk_text, refusal_text, found_text}
@@ -25,16 +26,16 @@ under_unique g F s t x y (inl p) (inr q) = absurd (Best-not-None p.1 q.0)
 under_unique g F s t x y (inr p) (inl q) = absurd (Best-not-None q.1 p.0)
 under_unique g F s t x y (inr p) (inr q) = p.1 ∙ sym q.1
 
-as_unique : (o : Option Refusal) (b : Book) (flags s t : ℕ) (x y : List ℕ) → AnsweredAs o b flags s t x → AnsweredAs o b flags s t y → x ≡ y
-as_unique none b flags s t x y p q = under_unique (graph b) (known flags b.sets) s t x y p q
-as_unique (some r) b flags s t x y p q = p ∙ sym q
+as_unique : (o : Option Refusal) (b : Book) (batch : Batch) (s t : ℕ) (x y : List ℕ) → AnsweredAs o b batch s t x → AnsweredAs o b batch s t y → x ≡ y
+as_unique none b batch s t x y p q = under_unique (graph b) (known batch b.sets) s t x y p q
+as_unique (some r) b batch s t x y p q = p ∙ sym q
 
 by_unique : (z : Bool) (s x y : List ℕ) → AnsweredBy z s x → AnsweredBy z s y → x ≡ y
-by_unique true s x y p q = as_unique (refusal_of (reading (drop 4 s)) (answer_tests (get_or s 2 0) (get_or s 3 0))) (book_in (reading (drop 4 s))) _ _ _ x y p q
+by_unique true s x y p q = as_unique (refusal_of (reading (drop 8 s)) (answer_tests (batch_at s 4) (get_or s 2 0) (get_or s 3 0))) (book_in (reading (drop 8 s))) _ _ _ x y p q
 by_unique false s x y p q = p ∙ sym q
 
 pub Answered_unique : (s x y : List ℕ) → Answered s x → Answered s y → x ≡ y
-Answered_unique s x y p q = by_unique (leb 4 (length s)) s x y p q
+Answered_unique s x y p q = by_unique (leb 8 (length s)) s x y p q
 
 -- So every byte that is printed is fixed by the input.
 pub Printed_unique : (s out out' : List ℕ) → Printed s out → Printed s out' → out ≡ out'
@@ -75,11 +76,11 @@ module _ (g : Graph) (F : List (List ℕ)) (s t : ℕ) (old new : List ℕ) wher
   found-standing (Some q) p = walk-within p
   found-standing None p = tt
 
--- In a book that was read: 7, or the plan under the known paths.
-module _ (b : Book) (flags start end : ℕ) where
-  pub answer-fails : {q : Refusal} → Fails (answer_tests start end b) q → AnsweredOf (accepted b) flags start end (refusal_text q)
-  answer-fails {q} f = subst (λ o. AnsweredAs o b flags start end (refusal_text q)) (sym (first-fails f)) refl
+-- In a book that was read: 7, 15, or the plan under the known paths.
+module _ (b : Book) (batch : Batch) (start end : ℕ) where
+  pub answer-fails : {q : Refusal} → Fails (answer_tests batch start end b) q → AnsweredOf (accepted b) batch start end (refusal_text q)
+  answer-fails {q} f = subst (λ o. AnsweredAs o b batch start end (refusal_text q)) (sym (first-fails f)) refl
 
-  pub answer-found : Hold (answer_tests start end b) → (text : List ℕ) → AnsweredUnder (graph b) (known flags b.sets) start end text
-      → AnsweredOf (accepted b) flags start end text
-  answer-found h text p = subst (λ o. AnsweredAs o b flags start end text) (sym (hold→none (answer_tests start end b) h)) p
+  pub answer-found : Hold (answer_tests batch start end b) → (text : List ℕ) → AnsweredUnder (graph b) (known batch b.sets) start end text
+      → AnsweredOf (accepted b) batch start end text
+  answer-found h text p = subst (λ o. AnsweredAs o b batch start end text) (sym (hold→none (answer_tests batch start end b) h)) p

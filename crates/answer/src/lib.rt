@@ -7,10 +7,11 @@ ghost use Rattle.text.specs.Text.{refusal_text};
 
 use book::Refusal;
 use limits::{AREA, LONGEST};
+use rules::Batch;
 use text::{Text, found_text, refusal_text};
 use walks::PathArea;
 
-// The text for an input: marks in two bytes, start, end, and a book.
+// The text for an input: marks in two bytes, start, end, day, month, year in two bytes, and a book.
 pub fn answer(input: &[u8]) -> Text
     ensures { Printed input.now result.items }
 {
@@ -26,7 +27,7 @@ fn answer_plan(input: &[u8], out: &mut Text) -> Result<(), Refusal>
     requires blank { out.old.items ≡ [] }
     ensures written { MatchResult result (λ _. Printed input.now out.new.items) (λ r. (out.new.items ≡ []) × Answered input.now (refusal_text r)) }
 {
-    let [high, low, start, end, bytes @ ..] = input else {
+    let [m1, m0, start, end, day, month, y1, y0, bytes @ ..] = input else {
         return Err(Refusal::Truncated(0));
     };
     let book = book::load(bytes)?;
@@ -36,8 +37,12 @@ fn answer_plan(input: &[u8], out: &mut Text) -> Result<(), Refusal>
     if book.counts.vertices <= usize::from(*end) {
         return Err(Refusal::Endpoint);
     }
+    let batch = Batch::from_bytes([*m1, *m0, *day, *month, *y1, *y0]);
+    if !batch.date.is_valid() {
+        return Err(Refusal::Date);
+    }
     let mut known = [0; AREA];
-    let count = rules::gather(&book, u16::from_be_bytes([*high, *low]), &mut known);
+    let count = rules::gather(&book, batch, &mut known);
     let paths = PathArea {
         bytes: &known,
         count,

@@ -1,6 +1,6 @@
 // Cases of single calls with any record and areas of any length and content: each prints the answer, and every byte that the call changed.
 //
-// A case is a head of 72 bytes (the record, the flags, and the lengths), what is given of the two areas, a list, and the book. All
+// A case is a head of 76 bytes (the record, the flags, the lengths, and the date), what is given of the two areas, a list, and the book. All
 // kinds have the same head, and each takes what its operation takes.
 #![tactic(auto)]
 
@@ -13,9 +13,10 @@ use book::Refusal;
 use cases::{changes, planned};
 use kinds::checked;
 use record_bytes::{MOST_AREA, area, record_of, word};
+use rules::Batch;
 use trial_record::Record;
 
-const HEAD: usize = 72;
+const HEAD: usize = 76;
 
 #[derive(Clone, Copy)]
 pub enum Call {
@@ -53,7 +54,9 @@ pub fn any_case(rt: &impl Print, call: Call, input: &[u8]) {
         rt,
         call,
         record_of(input),
-        u16::from_be_bytes([input[58], input[59]]),
+        Batch::from_bytes([
+            input[58], input[59], input[72], input[73], input[74], input[75],
+        ]),
         &mut paths[..paths_size],
         &mut walk[..walk_size],
         &input[list_from..book_from],
@@ -69,23 +72,23 @@ fn make(
     rt: &impl Print,
     call: Call,
     rec: Record,
-    flags: u16,
+    batch: Batch,
     paths: &mut [u8],
     walk: &mut [u8],
     list: &[u8],
     bytes: &[u8],
 )
-    ensures { Made call rec flags list.now bytes.now paths.old walk.old paths.new walk.new }
+    ensures { Made call rec batch list.now bytes.now paths.old walk.old paths.new walk.new }
 {
     match call {
-        Call::Bind => bound(rt, rules::bind(bytes, flags, paths)),
+        Call::Bind => bound(rt, rules::bind(bytes, batch, paths)),
         Call::Check => checked(rt, walk_check::check(bytes, paths, rec.known, list)),
         Call::Plan => {
             let answer = planner::plan(bytes, paths, rec.known, rec.start, rec.end, walk);
             planned(rt, answer, walk);
         }
         Call::Begin => {
-            let answer = trials::begin(bytes, flags, rec.start, rec.end, paths, walk);
+            let answer = trials::begin(bytes, batch, rec.start, rec.end, paths, walk);
             begun(rt, answer, walk);
         }
         Call::Passed => reported(rt, trials::report_passed(bytes, rec, paths, walk), walk),

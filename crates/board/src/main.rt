@@ -1,4 +1,4 @@
-// Prints the board of the case on standard input: marks in two bytes (high byte first), start, and a book.
+// Prints the board of the case on standard input: marks in two bytes (high byte first), start, day, month, year in two bytes, and a book.
 #![tactic(auto)]
 
 use arrayvec::ArrayVec;

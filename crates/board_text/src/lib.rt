@@ -11,13 +11,14 @@ use book::Refusal;
 use ends::NO_END;
 use limits::{AREA, MOST_VERTICES};
 use routes::Plan;
+use rules::Batch;
 use text::{Text, cost_text, decimal, refusal_text, word};
 use walks::PathArea;
 
 // The numbers of the longest table of ends: two for each vertex.
 const NUMBERS: usize = 2 * MOST_VERTICES;
 
-// The text for an input: marks in two bytes, start, and a book.
+// The text for an input: marks in two bytes, start, day, month, year in two bytes, and a book.
 pub fn board(input: &[u8]) -> Text
     ensures { Printed input.now result.items }
 {
@@ -33,15 +34,19 @@ fn board_lines(input: &[u8], out: &mut Text) -> Result<(), Refusal>
     requires blank { out.old.items ≡ [] }
     ensures written { MatchResult result (λ _. Printed input.now out.new.items) (λ r. (out.new.items ≡ []) × (board_text input.now ≡ refusal_text r)) }
 {
-    let [high, low, start, bytes @ ..] = input else {
+    let [m1, m0, start, day, month, y1, y0, bytes @ ..] = input else {
         return Err(Refusal::Truncated(0));
     };
     let book = book::load(bytes)?;
     if book.counts.vertices <= usize::from(*start) {
         return Err(Refusal::Endpoint);
     }
+    let batch = Batch::from_bytes([*m1, *m0, *day, *month, *y1, *y0]);
+    if !batch.date.is_valid() {
+        return Err(Refusal::Date);
+    }
     let mut known = [0; AREA];
-    let count = rules::gather(&book, u16::from_be_bytes([*high, *low]), &mut known);
+    let count = rules::gather(&book, batch, &mut known);
     let paths = PathArea {
         bytes: &known,
         count,

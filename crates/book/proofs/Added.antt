@@ -1,25 +1,27 @@
 -- What a rule set and a path add: to the lists that a book's tables stand for, and to what stands for the book.
-use Rattle.std.proofs.Common.{◌≡◌, ℕ, suc, ◌+◌, ◌-◌, ◌*◌, ◌≤◌, ◌<◌, true, List, [], ◌∷◌, ◌++◌, length, set, take, drop, replicate, Some, Ok, refl, sym, ap, ap₂, ◌∙◌, append-nil, append_assoc, add-zero, arith, length-append, lt-ltb}
+use Rattle.std.proofs.Common.{◌≡◌, ℕ, suc, ◌+◌, ◌-◌, ◌*◌, ◌≤◌, ◌<◌, true, List, [], ◌∷◌, ◌++◌, length, set, take, drop, replicate, Some, Ok, refl, sym, ap, ap₂, subst, ◌∙◌, append-nil, append_assoc, add-zero, arith, length-append, lt-ltb}
 use Rattle.std.proofs.lemmas.List.{length-map, replicate-append-replicate}
 use Rattle.std.proofs.Math.Seq.{paste}
 use Rattle.lists.specs.Paste.{slice_part}
 use Rattle.limits.specs.Limits.{area_size, entry_size, longest_path, most_paths, most_sets}
 use Rattle.book.specs.declared.Counts.{Counts}
 use Rattle.book.specs.declared.Loaded.{Loaded}
+use Rattle.book.specs.declared.Needs.{Needs}
+use Rattle.dates.specs.Dates.{window_fits}
 use Rattle.book.specs.declared.Kind.{Kind}
 use Rattle.book.specs.Book.{RuleSet, Book, All, all_paths, are_vertices}
-use Rattle.book.specs.Reading.{flags_at, path_at, end_at, length_at, taken, add_path}
-use Rattle.book.specs.Tables.{flags_of, owners_from, entries, padded, flag_table, owner_table, path_table, IsLoaded, AreTables, Leaves}
+use Rattle.book.specs.Reading.{needs_at, path_at, end_at, length_at, taken, add_path}
+use Rattle.book.specs.Tables.{needs_of, nothing_needed, owners_from, entries, padded_with, padded, needs_table, owner_table, path_table, IsLoaded, AreTables, Leaves}
 use Rattle.book.specs.BookLaws.{bare, paths-set}
 use Rattle.book.proofs.BookLaws.{all_map, length-sets-path, paths-path}
 use Rattle.book.proofs.EntryLaws.{length_owners, entries_snoc, length-entries}
 use Rattle.book.proofs.Padded.{padded-set, padded-entry}
 
 -- ---- a rule set
-module _ (f : ℕ) where
-  pub flags-set : (ss : List RuleSet) → flags_of (ss ++ bare f) ≡ flags_of ss ++ (f ∷ [])
-  flags-set [] = refl
-  flags-set (s ∷ ss) = ap (λ l. s.flags ∷ l) (flags-set ss)
+module _ (f : Needs) where
+  pub needs-set : (ss : List RuleSet) → needs_of (ss ++ bare f) ≡ needs_of ss ++ (f ∷ [])
+  needs-set [] = refl
+  needs-set (s ∷ ss) = ap (λ l. s.needs ∷ l) (needs-set ss)
 
   pub owners_set : (k : ℕ) (ss : List RuleSet) → owners_from k (ss ++ bare f) ≡ owners_from k ss
   unfolding owners_from
@@ -28,11 +30,11 @@ module _ (f : ℕ) where
 
 -- ---- a path
 module _ (p : List ℕ) where
-  pub flags-path : (ss : List RuleSet) → flags_of (add_path ss p) ≡ flags_of ss
+  pub needs-path : (ss : List RuleSet) → needs_of (add_path ss p) ≡ needs_of ss
   unfolding add_path
-  flags-path [] = refl
-  flags-path (s ∷ []) = refl
-  flags-path (s ∷ (s' ∷ ss)) = ap (λ l. s.flags ∷ l) (flags-path (s' ∷ ss))
+  needs-path [] = refl
+  needs-path (s ∷ []) = refl
+  needs-path (s ∷ (s' ∷ ss)) = ap (λ l. s.needs ∷ l) (needs-path (s' ∷ ss))
 
   pub owners_path : (k : ℕ) (ss : List RuleSet) → 1 ≤ length ss
       → owners_from k (add_path ss p) ≡ owners_from k ss ++ ((k + (length ss - 1)) ∷ [])
@@ -49,13 +51,13 @@ module _ (p : List ℕ) where
       ∙ ap (λ j. replicate (length s.paths) k ++ owners_from (suc k) (s' ∷ ss) ++ (j ∷ [])) (omega arith)
 
 -- ---- the tables
-pub flags-after-set : (t : List ℕ) (k x f : ℕ) (ss : List RuleSet) → length ss < most_sets → t ≡ flag_table ss → k ≡ length ss → x ≡ f
-    → set t k x ≡ flag_table (ss ++ bare f)
-flags-after-set t k x f ss few held at-end value =
+pub needs_after_set : (t : List Needs) (k : ℕ) (x f : Needs) (ss : List RuleSet) → length ss < most_sets → t ≡ needs_table ss → k ≡ length ss → x ≡ f
+    → set t k x ≡ needs_table (ss ++ bare f)
+needs_after_set t k x f ss few held at-end value =
     ap₂ (λ u j. set u j x) held (at-end ∙ sym (length-map ss _))
-    ∙ ap (λ y. set (padded most_sets (flags_of ss)) (length (flags_of ss)) y) value
-    ∙ padded-set most_sets (flags_of ss) f (omega (arith, length-map ss (λ (s : RuleSet). s.flags)))
-    ∙ ap (padded most_sets) (sym (flags-set f ss))
+    ∙ ap (λ y. set (needs_table ss) (length (needs_of ss)) y) value
+    ∙ padded-set nothing_needed most_sets (needs_of ss) f (omega (arith, length-map ss (λ (s : RuleSet). s.needs)))
+    ∙ ap (padded_with nothing_needed most_sets) (sym (needs-set f ss))
 
 -- the owner right after the others'
 owner_added : (o : List ℕ) (k x : ℕ) (ss : List RuleSet) (p : List ℕ) → 1 ≤ length ss → o ≡ owner_table ss → k ≡ length (all_paths ss) → k < most_paths → x ≡ length ss - 1
@@ -63,7 +65,7 @@ owner_added : (o : List ℕ) (k x : ℕ) (ss : List RuleSet) (p : List ℕ) → 
 owner_added o k x ss p some-set held count room value =
     let size = length_owners 0 ss in
     ap₂ (λ l j. set l j x) held (count ∙ sym size)
-    ∙ padded-set most_paths (owners_from 0 ss) x (omega (arith, size))
+    ∙ padded-set 0 most_paths (owners_from 0 ss) x (omega (arith, size))
     ∙ ap (λ y. padded most_paths (owners_from 0 ss ++ (y ∷ []))) (let last : x ≡ 0 + (length ss - 1) = omega arith in last)
     ∙ ap (padded most_paths) (sym (owners_path p 0 ss some-set))
 
@@ -87,28 +89,29 @@ module _ (l : Loaded) (s : List ℕ) (b : Book) (at : ℕ) (h : IsLoaded b l) wh
   paths_are : l.counts.paths ≡ length (all_paths b.sets)
   paths_are = ap (λ (d : Counts). d.paths) h.counted
 
-  pub set-added : (x : ℕ) → x ≡ flags_at s at → l.counts.sets < most_sets
+  pub set-added : (x : Needs) → x ≡ needs_at s at → window_fits x.window ≡ true → l.counts.sets < most_sets
       → Leaves AreTables (taken (Some Kind.RuleSet) s b at)
       (Ok (record {
         counts = record { vertices = l.counts.vertices; arcs = l.counts.arcs; sets = l.counts.sets + 1; paths = l.counts.paths };
         weights = l.weights;
-        flags = set l.flags l.counts.sets x;
+        needs = set l.needs l.counts.sets x;
         owners = l.owners;
         entries = l.entries;
       }))
-  set-added x e room =
+  set-added x e season room =
       let few : length b.sets < most_sets = omega (arith, sets-are) in
-      rw (lt-ltb (length b.sets) most_sets few)
+      let held : window_fits (needs_at s at).window ≡ true = subst (λ (y : Needs). window_fits y.window ≡ true) e season in
+      rw (held, lt-ltb (length b.sets) most_sets few)
       (record {
         counts_are =
             ap (λ (d : Counts). record { vertices = d.vertices; arcs = d.arcs; sets = d.sets + 1; paths = d.paths }) h.counted
             ∙ ap₂ (λ n m. record { vertices = b.count; arcs = length b.arcs; sets = n; paths = m })
-            (sym (length-append b.sets (bare (flags_at s at))))
-            (sym (ap length (paths-set (flags_at s at) b.sets)));
+            (sym (length-append b.sets (bare (needs_at s at))))
+            (sym (ap length (paths-set (needs_at s at) b.sets)));
         weights_are = h.graph.weights_are;
-        flags_are = flags-after-set l.flags l.counts.sets x (flags_at s at) b.sets few h.sets.flags_are sets-are e;
-        owners_are = h.sets.owners_are ∙ ap (padded most_paths) (sym (owners_set (flags_at s at) 0 b.sets));
-        paths_are = h.sets.paths_are ∙ ap (λ ps. padded area_size (entries ps)) (sym (paths-set (flags_at s at) b.sets));
+        needs_are = needs_after_set l.needs l.counts.sets x (needs_at s at) b.sets few h.sets.needs_are sets-are e;
+        owners_are = h.sets.owners_are ∙ ap (padded most_paths) (sym (owners_set (needs_at s at) 0 b.sets));
+        paths_are = h.sets.paths_are ∙ ap (λ ps. padded area_size (entries ps)) (sym (paths-set (needs_at s at) b.sets));
       })
 
   pub path_part : (end : ℕ) → end ≡ end_at s at → end_at s at ≤ length s → take (end - (at + 3)) (drop (at + 3) s) ≡ path_at s at
@@ -123,7 +126,7 @@ module _ (l : Loaded) (s : List ℕ) (b : Book) (at : ℕ) (h : IsLoaded b l) wh
       (Ok (record {
         counts = record { vertices = l.counts.vertices; arcs = l.counts.arcs; sets = l.counts.sets; paths = l.counts.paths + 1 };
         weights = l.weights;
-        flags = l.flags;
+        needs = l.needs;
         owners = set l.owners l.counts.paths (l.counts.sets - 1);
         entries = e;
       }))
@@ -140,7 +143,7 @@ module _ (l : Loaded) (s : List ℕ) (b : Book) (at : ℕ) (h : IsLoaded b l) wh
             (sym (length-sets-path (path_at s at) b.sets))
             (sym (ap length (paths-path (path_at s at) b.sets some-set) ∙ length-append (all_paths b.sets) (path_at s at ∷ [])));
         weights_are = h.graph.weights_are;
-        flags_are = h.sets.flags_are ∙ ap (padded most_sets) (sym (flags-path (path_at s at) b.sets));
+        needs_are = h.sets.needs_are ∙ ap (padded_with nothing_needed most_sets) (sym (needs-path (path_at s at) b.sets));
         owners_are = owner_added l.owners l.counts.paths _ b.sets (path_at s at) some-set h.sets.owners_are paths_are room owner;
         paths_are =
             copied

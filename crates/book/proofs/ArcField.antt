@@ -79,7 +79,7 @@ module _ (l : Loaded) (s : List ℕ) (b : Book) (at : ℕ) (h : IsLoaded b l) (a
       (Ok (record {
         counts = record { vertices = l.counts.vertices; arcs = l.counts.arcs + 1; sets = l.counts.sets; paths = l.counts.paths };
         weights = t;
-        flags = l.flags;
+        needs = l.needs;
         owners = l.owners;
         entries = l.entries;
       }))
@@ -94,7 +94,7 @@ module _ (l : Loaded) (s : List ℕ) (b : Book) (at : ℕ) (h : IsLoaded b l) (a
             ∙ ap (λ n. record { vertices = b.count; arcs = n; sets = length b.sets; paths = length (all_paths b.sets) })
             (sym (length-append b.arcs (arc_at s at ∷ [])));
         weights_are = here.1 ∙ ap (λ x. weight_table (kept b x).arcs) is;
-        flags_are = h.sets.flags_are;
+        needs_are = h.sets.needs_are;
         owners_are = h.sets.owners_are;
         paths_are = h.sets.paths_are;
       })

@@ -14,12 +14,13 @@ use Rattle.book.specs.declared.Refusal.{Refusal}
 use Rattle.book.specs.declared.Counts.{Counts}
 use Rattle.book.specs.declared.Kind.{Kind}
 use Rattle.book.specs.declared.Kind.TheVariants.{VertexCount, Path}
+use Rattle.book.specs.declared.Needs.{Needs}
 use Rattle.book.specs.Refusal.{first_failure}
 use Rattle.book.proofs.RefusalLaws.{none→hold}
 use Rattle.lists.specs.Test.{and-true, or_false, either}
 use Rattle.walks.specs.Graph.{Arc, is_some, weight_in}
 use Rattle.book.specs.Book.{RuleSet, Book, blank, all_paths, counts, given, proper_arc, are_vertices, is_path, All, IsArc, IsPath, PairsOnce, WellFormed}
-use Rattle.book.specs.Reading.{Reading, accepted, refused, read_as, kind_at, length_at, end_at, count_at, arc_at, flags_at, path_at, follows, fits, proper, fresh, room, extended, add_path, outcome, field, fields, and_then, reading}
+use Rattle.book.specs.Reading.{Reading, accepted, refused, read_as, kind_at, length_at, end_at, count_at, arc_at, needs_at, path_at, follows, fits, proper, fresh, room, extended, add_path, outcome, field, fields, and_then, reading}
 use Rattle.book.specs.BookLaws.{bare, paths-set, Passed, all_tests, IsBook}
 
 -- ---- lists
@@ -160,8 +161,9 @@ module _ (s : List ℕ) (b : Book) (at : ℕ) (b' : Book) (e : field s b at ≡ 
         fit = held.1.1.0;
         whole = leb-true _ _ held.1.1.1.0;
         value = held.1.1.1.1.0;
-        once = held.1.1.1.1.1.0;
-        space = held.1.1.1.1.1.1.0;
+        season = held.1.1.1.1.1.0;
+        once = held.1.1.1.1.1.1.0;
+        space = held.1.1.1.1.1.1.1.0;
       }
 
 -- a field keeps a book well formed
@@ -195,7 +197,7 @@ arc-well_formed a b w value once =
       paths-proper = w.paths-proper;
     }
 
-set-well_formed : (f : ℕ) (b : Book) → WellFormed b → 1 ≤ b.count → length b.sets < most_sets
+set-well_formed : (f : Needs) (b : Book) → WellFormed b → 1 ≤ b.count → length b.sets < most_sets
     → WellFormed (record { count = b.count; arcs = b.arcs; sets = b.sets ++ bare f })
 set-well_formed f b w low space =
     record {
@@ -233,7 +235,7 @@ extended-well_formed (Some VertexCount) s b at w order fit whole value once spac
     count-well_formed (count_at s at) b w (eqb-true _ 0 order) (leb-true _ _ limits.0) (leb-true _ _ limits.1)
 extended-well_formed (Some Kind.Arc) s b at w order fit whole value once space = arc-well_formed (arc_at s at) b w value (not-true _ once)
 extended-well_formed (Some Kind.RuleSet) s b at w order fit whole value once space =
-    set-well_formed (flags_at s at) b w (not-zero b.count order) (ltb-true _ _ space)
+    set-well_formed (needs_at s at) b w (not-zero b.count order) (ltb-true _ _ space)
 extended-well_formed (Some Path) s b at w order fit whole value once space =
     let limits = and-true (leb 2 (length_at s at)) (leb (length_at s at) longest_path) fit in
     let size : length (path_at s at) ≡ length_at s at = length-slice (at + 3) (end_at s at) s whole ∙ omega arith in

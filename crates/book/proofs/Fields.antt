@@ -48,7 +48,7 @@ module _ (s : List ℕ) (at : ℕ) (b : Book) (l : Loaded) (h : IsLoaded b l) wh
       record {
         counted = counted;
         graph = record { well = formed; vertices_are = ap (λ (d : Counts). d.vertices) counted; weights_are = t.weights_are };
-        sets = record { well = formed; counted = ap (λ (d : Counts). d.paths) counted; flags_are = t.flags_are; owners_are = t.owners_are; paths_are = t.paths_are };
+        sets = record { well = formed; counted = ap (λ (d : Counts). d.paths) counted; needs_are = t.needs_are; owners_are = t.owners_are; paths_are = t.paths_are };
       }
   well (accepted b') is (Err r) l' t = t
   well (refused q) is (Ok u) l' t = t

@@ -3,6 +3,7 @@ use Rattle.std.specs.Prelude.{ℕ, zero, suc, ◌+◌, ◌≤◌, ◌<◌, List,
 use Rattle.std.proofs.Common.{sym, ap, subst, ◌∙◌, arith}
 use Rattle.limits.specs.Limits.{most_vertices, most_sets, most_paths, area_size}
 use Rattle.book.specs.declared.Loaded.{Loaded}
+use Rattle.book.specs.declared.Needs.{Needs}
 use Rattle.book.specs.declared.Refusal.{Refusal}
 use Rattle.walks.specs.Weights.{Weights}
 use Rattle.book.specs.Book.{Book, RuleSet, All, all_paths, graph}
@@ -35,12 +36,12 @@ pub graph-weights : {b : Book} {n : ℕ} {w : List ℕ} → IsGraph b n w → We
 graph-weights {b} g = subst (Weights (graph b)) (sym g.weights_are) (book-weights b g.well)
 
 -- each path has the index of one of the rule sets
-zeros-after : (l : List ℕ) (m i : ℕ) → get_or (l ++ replicate m 0) i 0 ≡ get_or l i 0
-zeros-after [] zero i = refl
-zeros-after [] (suc m) zero = refl
-zeros-after [] (suc m) (suc i) = zeros-after [] m i
-zeros-after (x ∷ l) m zero = refl
-zeros-after (x ∷ l) m (suc i) = zeros-after l m i
+pub get_or-padding : {A : Type 0} (z : A) (l : List A) (m i : ℕ) → get_or (l ++ replicate m z) i z ≡ get_or l i z
+get_or-padding z [] zero i = refl
+get_or-padding z [] (suc m) zero = refl
+get_or-padding z [] (suc m) (suc i) = get_or-padding z [] m i
+get_or-padding z (x ∷ l) m zero = refl
+get_or-padding z (x ∷ l) m (suc i) = get_or-padding z l m i
 
 owner_below : (k : ℕ) (ss : List RuleSet) (i : ℕ) → 1 ≤ k + length ss → get_or (owners_from k ss) i 0 < k + length ss
 unfolding owners_from
@@ -55,13 +56,13 @@ owner_below k (s ∷ ss) i h = among (length s.paths) i (owner_below (suc k) ss)
 
 owners_below : (ss : List RuleSet) → length ss ≤ most_sets → (i : ℕ) → get_or (owner_table ss) i 0 < most_sets
 unfolding owners_from
-owners_below ss few i = rw (zeros-after (owners_from 0 ss)) (go ss few)
+owners_below ss few i = rw (get_or-padding 0 (owners_from 0 ss)) (go ss few)
   where
     go : (ss : List RuleSet) → length ss ≤ most_sets → get_or (owners_from 0 ss) i 0 < most_sets
     go [] few = omega arith
     go (s ∷ ss) few = omega (arith, owner_below 0 (s ∷ ss) i (omega arith))
 
-module _ {b : Book} {n : ℕ} {f o p : List ℕ} (s : IsSets b n f o p) where
+module _ {b : Book} {n : ℕ} {f : List Needs} {o p : List ℕ} (s : IsSets b n f o p) where
   pub sets-short : All Short (all_paths b.sets)
   sets-short = all_map (λ q h. h.eight) (all_paths b.sets) s.well.paths-proper
 

@@ -54,7 +54,7 @@ started (x ∷ s) l some_byte clean =
                 record {
                   well = blank-well_formed;
                   counted = ap (λ (c : Counts). c.paths) clean.nothing_counted;
-                  flags_are = clean.no_flags;
+                  needs_are = clean.no_needs;
                   owners_are = clean.no_owners;
                   paths_are = clean.no_paths;
                 };

@@ -4,10 +4,11 @@ use Rattle.limits.specs.Limits.{most_vertices, heaviest, most_sets, most_paths, 
 use Rattle.lists.specs.Test.{all}
 use Rattle.walks.specs.Graph.{Graph, Arc, is_some, weight_in, from_arcs}
 use Rattle.book.specs.declared.Counts.{Counts}
+use Rattle.book.specs.declared.Needs.{Needs}
 
--- 01: a sheet, with the marks that it needs as its flags and its runs as its paths, in the book's order
+-- 01: a sheet, with what it needs of a batch and its runs as its paths, in the book's order
 pub record RuleSet : Type 0 where
-  pub flags : ℕ
+  pub needs : Needs
   pub paths : List (List ℕ)
 
 -- 01: a book. The vertices (grades) are the numbers below the count; arcs and rule sets stand in the book's order

@@ -3,15 +3,16 @@ use Prim.Native.Nat.{ℕ, ◌≤◌}
 use Rattle.std.specs.Prelude.{◌≡◌, true, length}
 use Rattle.std.proofs.Math.Path.{refl, ap}
 use mathlib.Core.List.{List, [], ◌∷◌, ◌++◌}
+use Rattle.book.specs.declared.Needs.{Needs}
 use Rattle.book.specs.Refusal.{Test}
 use Rattle.book.specs.Book.{RuleSet, Book, all_paths, WellFormed}
-use Rattle.book.specs.Reading.{kind_at, length_at, end_at, follows, fits, proper, fresh, room, framing, content}
+use Rattle.book.specs.Reading.{kind_at, length_at, end_at, follows, fits, proper, seasonal, fresh, room, framing, content}
 
 -- ---- one more rule set, one more path
-module _ (f : ℕ) where
+module _ (f : Needs) where
   -- a rule set that has no path yet
   abbrev pub bare : List RuleSet
-  bare = record { flags = f; paths = [] } ∷ []
+  bare = record { needs = f; paths = [] } ∷ []
 
   pub paths-set : (ss : List RuleSet) → all_paths (ss ++ bare) ≡ all_paths ss
   unfolding all_paths
@@ -24,6 +25,7 @@ pub record Passed (s : List ℕ) (b : Book) (at : ℕ) : Type 0 where
   pub fit : fits (kind_at s at) (length_at s at) ≡ true
   pub whole : end_at s at ≤ length s
   pub value : proper (kind_at s at) s b at ≡ true
+  pub season : seasonal (kind_at s at) s at ≡ true
   pub once : fresh (kind_at s at) s b at ≡ true
   pub space : room (kind_at s at) b ≡ true
 

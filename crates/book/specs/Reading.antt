@@ -1,14 +1,18 @@
 -- The reading of bytes as a book: field by field, each a tag, a length of two bytes (high byte first) and that many bytes.
 use Rattle.std.specs.Prelude
-use Rattle.std.specs.Prelude.{ℕ, zero, suc, ◌+◌, ◌*◌, Bool, true, false, cond, not, ◌&&◌, List, [], ◌∷◌, ◌++◌, length, get_or, eqb, leb, ltb, Some, None, Result, Ok, Err}
+use Rattle.std.specs.Prelude.{ℕ, zero, suc, ◌+◌, ◌*◌, Bool, true, false, cond, not, ◌&&◌, ◌||◌, List, [], ◌∷◌, ◌++◌, length, get_or, eqb, leb, ltb, Some, None, Result, Ok, Err}
 use Rattle.std.proofs.Math.Option.{Option, none, some}
 use Rattle.std.proofs.Math.Seq.{slice}
 use Rattle.book.specs.declared.Arc.{Arc as Read}
 use Rattle.book.specs.declared.Refusal.{Refusal}
 use Rattle.book.specs.declared.Counts.{Counts}
+use Rattle.book.specs.declared.Needs.{Needs}
 use Rattle.book.specs.declared.Kind.{Kind}
 use Rattle.book.specs.declared.Kind.TheVariants.{VertexCount, Path}
 use Rattle.book.specs.Refusal.{Test, test_at, numbered, first_failure, refusal_by}
+use Rattle.dates.specs.declared.MonthDay.{MonthDay}
+use Rattle.dates.specs.declared.Window.{Window}
+use Rattle.dates.specs.Dates.{window_fits}
 use Rattle.limits.specs.Limits.{most_vertices, most_sets, most_paths}
 use Rattle.walks.specs.Graph.{Arc}
 use Rattle.book.specs.Book.{RuleSet, Book, blank, all_paths, counts, given, proper_arc, path_length, are_vertices}
@@ -56,8 +60,15 @@ count_at s at = get_or s (at + 3) 0
 abbrev pub arc_at : List ℕ → ℕ → Arc
 arc_at s at = record { tail = get_or s (at + 3) 0; head = get_or s (at + 4) 0; weight = u32_at s (at + 5) }
 
-abbrev pub flags_at : List ℕ → ℕ → ℕ
-flags_at s at = u16_at s (at + 3)
+abbrev pub day_at : List ℕ → ℕ → MonthDay
+day_at s i = record { day = get_or s i 0; month = get_or s (i + 1) 0 }
+
+-- a window, unless the field has the short form
+abbrev pub window_at : List ℕ → ℕ → Prelude.Option Window
+window_at s at = cond (eqb (length_at s at) 2) None (Some (record { first = day_at s (at + 5); last = day_at s (at + 7) }))
+
+abbrev pub needs_at : List ℕ → ℕ → Needs
+needs_at s at = record { flags = u16_at s (at + 3); window = window_at s at }
 
 abbrev pub path_at : List ℕ → ℕ → List ℕ
 path_at s at = slice (at + 3) (end_at s at) s
@@ -75,7 +86,7 @@ follows vertices sets None = false
 abbrev pub fits : Prelude.Option Kind → ℕ → Bool
 fits (Some VertexCount) n = eqb n 1
 fits (Some Kind.Arc) n = eqb n 6
-fits (Some Kind.RuleSet) n = eqb n 2
+fits (Some Kind.RuleSet) n = eqb n 2 || eqb n 6
 fits (Some Path) n = path_length n
 fits None n = false
 
@@ -86,6 +97,14 @@ proper (Some Kind.Arc) s b at = proper_arc b.count (arc_at s at)
 proper (Some Kind.RuleSet) s b at = true
 proper (Some Path) s b at = are_vertices b.count (path_at s at)
 proper None s b at = true
+
+-- 14: the edges of a window are days that some year has
+abbrev pub seasonal : Prelude.Option Kind → List ℕ → ℕ → Bool
+seasonal (Some VertexCount) s at = true
+seasonal (Some Kind.Arc) s at = true
+seasonal (Some Kind.RuleSet) s at = window_fits (window_at s at)
+seasonal (Some Path) s at = true
+seasonal None s at = true
 
 -- 5: an arc's pair has not been given
 abbrev pub fresh : Prelude.Option Kind → List ℕ → Book → ℕ → Bool
@@ -103,7 +122,7 @@ room (Some Kind.RuleSet) b = ltb (length b.sets) most_sets
 room (Some Path) b = ltb (length (all_paths b.sets)) most_paths
 room None b = true
 
--- the tests of a field, in 01's order: 1 for the head, 2, 3, 1 for the body; then 4, 5, 6
+-- the tests of a field, in 01's order: 1 for the head, 2, 3, 1 for the body; then 4, 5, 6, and 14 (02) in the place of 4
 abbrev pub framing : List ℕ → ℕ → ℕ → ℕ → List Test
 framing s vertices sets at =
     test_at at 1 (leb (at + 3) (length s))
@@ -115,6 +134,7 @@ framing s vertices sets at =
 abbrev pub content : Prelude.Option Kind → List ℕ → Book → ℕ → List Test
 content kind s b at =
     test_at at 4 (proper kind s b at)
+    ∷ test_at at 14 (seasonal kind s at)
     ∷ test_at at 5 (fresh kind s b at)
     ∷ test_at at 6 (room kind b)
     ∷ []
@@ -122,7 +142,7 @@ content kind s b at =
 -- a path belongs to the last rule set
 unfoldable pub add_path : List RuleSet → List ℕ → List RuleSet
 add_path [] p = []
-add_path (s ∷ []) p = record { flags = s.flags; paths = s.paths ++ (p ∷ []) } ∷ []
+add_path (s ∷ []) p = record { needs = s.needs; paths = s.paths ++ (p ∷ []) } ∷ []
 add_path (s ∷ (s' ∷ ss)) p = s ∷ add_path (s' ∷ ss) p
 
 abbrev pub add_arc : Book → Arc → Book
@@ -132,7 +152,7 @@ add_arc b a = record { count = b.count; arcs = b.arcs ++ (a ∷ []); sets = b.se
 abbrev pub extended : Prelude.Option Kind → List ℕ → Book → ℕ → Book
 extended (Some VertexCount) s b at = record { count = count_at s at; arcs = b.arcs; sets = b.sets }
 extended (Some Kind.Arc) s b at = add_arc b (arc_at s at)
-extended (Some Kind.RuleSet) s b at = record { count = b.count; arcs = b.arcs; sets = b.sets ++ (record { flags = flags_at s at; paths = [] } ∷ []) }
+extended (Some Kind.RuleSet) s b at = record { count = b.count; arcs = b.arcs; sets = b.sets ++ (record { needs = needs_at s at; paths = [] } ∷ []) }
 extended (Some Path) s b at = record { count = b.count; arcs = b.arcs; sets = add_path b.sets (path_at s at) }
 extended None s b at = b
 

@@ -1,11 +1,11 @@
--- The refusals: 01's number and value for each, the tests that lead to them, and the order between the tests of an operation.
+-- The refusals: the number (01, 02) and value for each, the tests that lead to them, and the order between the tests of an operation.
 use Rattle.std.specs.Prelude
 use Rattle.std.specs.Prelude.{ℕ, Bool, true, cond, ◌&&◌, List, [], ◌∷◌, ◌++◌, map, eqb, Some, None}
 use Rattle.std.proofs.Math.Option.{Option, none, some}
 use Rattle.book.specs.declared.Refusal.{Refusal}
-use Rattle.book.specs.declared.Refusal.TheVariants.{Truncated, Tag, Length, Value, Repeated, TooMany, Endpoint, Area, Invalid, NotAWalk, Ended, NotStanding, Full}
+use Rattle.book.specs.declared.Refusal.TheVariants.{Truncated, Tag, Length, Value, Repeated, TooMany, Endpoint, Area, Invalid, NotAWalk, Ended, NotStanding, Full, Window, Date}
 
--- 01's number of each refusal
+-- the number of each refusal (01, 02)
 abbrev pub number_of : Refusal → ℕ
 number_of (Truncated at) = 1
 number_of (Tag at) = 2
@@ -20,6 +20,8 @@ number_of NotAWalk = 10
 number_of Ended = 11
 number_of NotStanding = 12
 number_of Full = 13
+number_of (Window at) = 14
+number_of Date = 15
 
 -- the value that it carries: the byte of a book's field (or the index of a list's item)
 abbrev pub place_of : Refusal → Prelude.Option ℕ
@@ -36,16 +38,18 @@ place_of NotAWalk = None
 place_of Ended = None
 place_of NotStanding = None
 place_of Full = None
+place_of (Window at) = Some at
+place_of Date = None
 
--- The book's refusals, at a place; and the others in the order between the tests of an operation (01: 8, 7, 9 to 13), after the book's. Every
+-- The book's refusals, at a place; and the others in the order between the tests of an operation (01, 02: 8, 7, 15, 9 to 13), after the book's. Every
 -- refusal stands in one of the two lists, and its rank is said here alone.
 abbrev pub book_refusals : ℕ → List Refusal
-book_refusals at = Truncated at ∷ Tag at ∷ Length at ∷ Value at ∷ Repeated at ∷ TooMany at ∷ []
+book_refusals at = Truncated at ∷ Tag at ∷ Length at ∷ Value at ∷ Window at ∷ Repeated at ∷ TooMany at ∷ []
 
 abbrev pub refusals_in_order : List Refusal
-refusals_in_order = Area ∷ Endpoint ∷ Invalid ∷ NotAWalk ∷ Ended ∷ NotStanding ∷ Full ∷ []
+refusals_in_order = Area ∷ Endpoint ∷ Date ∷ Invalid ∷ NotAWalk ∷ Ended ∷ NotStanding ∷ Full ∷ []
 
--- The one with a number, as `number_of` has it: the definitions below and those of the operations name refusals by 01's numbers alone.
+-- The one with a number, as `number_of` has it: the definitions below and those of the operations name refusals by their numbers alone.
 abbrev pub numbered_in : ℕ → List Refusal → Refusal
 numbered_in n [] = Truncated 0
 numbered_in n (r ∷ rs) = cond (eqb (number_of r) n) r (numbered_in n rs)
@@ -75,7 +79,7 @@ abbrev pub all_hold : List Test → Bool
 all_hold [] = true
 all_hold (t ∷ ts) = t.holds && all_hold ts
 
--- That order, as 01's numbers.
+-- That order, as numbers.
 abbrev pub order : List ℕ
 order = map number_of refusals_in_order
 

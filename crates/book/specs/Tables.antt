@@ -1,15 +1,19 @@
 -- A book's meaning as tables, for the layers above.
-use Rattle.std.specs.Prelude.{ℕ, suc, ◌+◌, ◌-◌, ◌*◌, ◌≡◌, List, [], ◌∷◌, ◌++◌, map, length, set, replicate, Result, Ok, Err}
+use Rattle.std.specs.Prelude.{ℕ, suc, ◌+◌, ◌-◌, ◌*◌, ◌≡◌, List, [], ◌∷◌, ◌++◌, map, length, set, replicate, Result, Ok, Err, None}
 use Rattle.limits.specs.Limits.{most_vertices, pairs, most_sets, most_paths, area_size, no_arc, longest_path}
 use Rattle.walks.specs.Graph.{Arc}
 use Rattle.book.specs.declared.Loaded.{Loaded}
+use Rattle.book.specs.declared.Needs.{Needs}
 use Rattle.book.specs.declared.Refusal.{Refusal}
 use Rattle.book.specs.Book.{RuleSet, Book, WellFormed, all_paths, counts}
 use Rattle.book.specs.Reading.{Reading, accepted, refused, verdict_of, with_arc, kept}
 
--- a list with zeros up to n elements
+-- a list with one value after it up to n elements; with zeros
+abbrev pub padded_with : {A : Type 0} → A → ℕ → List A → List A
+padded_with x n l = l ++ replicate (n - length l) x
+
 abbrev pub padded : ℕ → List ℕ → List ℕ
-padded n l = l ++ replicate (n - length l) 0
+padded = padded_with 0
 
 -- the weight of the arc from u to v stands at u * 64 + v, in rising order of u, then v
 unfoldable pub entered : List ℕ → List Arc → List ℕ
@@ -19,9 +23,12 @@ entered t (a ∷ rest) = entered (set t (a.tail * most_vertices + a.head) a.weig
 abbrev pub weight_table : List Arc → List ℕ
 weight_table arcs = entered (replicate pairs no_arc) arcs
 
--- the flags of each rule set
-abbrev pub flags_of : List RuleSet → List ℕ
-flags_of ss = map (λ s. s.flags) ss
+-- what each rule set needs
+abbrev pub needs_of : List RuleSet → List Needs
+needs_of ss = map (λ s. s.needs) ss
+
+abbrev pub nothing_needed : Needs
+nothing_needed = record { flags = 0; window = None }
 
 -- for each forbidden path of the book, the index of its rule set; k is the first set's
 unfoldable pub owners_from : ℕ → List RuleSet → List ℕ
@@ -36,8 +43,8 @@ unfoldable pub entries : List (List ℕ) → List ℕ
 entries [] = []
 entries (p ∷ ps) = entry p ++ entries ps
 
-abbrev pub flag_table : List RuleSet → List ℕ
-flag_table ss = padded most_sets (flags_of ss)
+abbrev pub needs_table : List RuleSet → List Needs
+needs_table ss = padded_with nothing_needed most_sets (needs_of ss)
 
 abbrev pub owner_table : List RuleSet → List ℕ
 owner_table ss = padded most_paths (owners_from 0 ss)
@@ -52,10 +59,10 @@ pub record IsGraph (b : Book) (vertices : ℕ) (weights : List ℕ) : Type 0 whe
   pub weights_are : weights ≡ weight_table b.arcs
 
 -- ... so are the number of paths and the tables of the rule sets ...
-pub record IsSets (b : Book) (paths : ℕ) (flags owners entries : List ℕ) : Type 0 where
+pub record IsSets (b : Book) (paths : ℕ) (needs : List Needs) (owners entries : List ℕ) : Type 0 where
   pub well : WellFormed b
   pub counted : paths ≡ length (all_paths b.sets)
-  pub flags_are : flags ≡ flag_table b.sets
+  pub needs_are : needs ≡ needs_table b.sets
   pub owners_are : owners ≡ owner_table b.sets
   pub paths_are : entries ≡ path_table b.sets
 
@@ -63,7 +70,7 @@ pub record IsSets (b : Book) (paths : ℕ) (flags owners entries : List ℕ) : T
 pub record IsLoaded (b : Book) (l : Loaded) : Type 0 where
   pub counted : l.counts ≡ counts b
   pub graph : IsGraph b l.counts.vertices l.weights
-  pub sets : IsSets b l.counts.paths l.flags l.owners l.entries
+  pub sets : IsSets b l.counts.paths l.needs l.owners l.entries
 
 -- What a reading that is to leave P of the book answers, with what it leaves.
 abbrev pub Leaves : (Book → Loaded → Type 0) → Reading → Result Loaded Refusal → Type 0
@@ -85,7 +92,7 @@ left (Err r) l = Err r
 pub record AreTables (b : Book) (l : Loaded) : Type 0 where
   pub counts_are : l.counts ≡ counts b
   pub weights_are : l.weights ≡ weight_table b.arcs
-  pub flags_are : l.flags ≡ flag_table b.sets
+  pub needs_are : l.needs ≡ needs_table b.sets
   pub owners_are : l.owners ≡ owner_table b.sets
   pub paths_are : l.entries ≡ path_table b.sets
 
@@ -97,6 +104,6 @@ Enters b at a v new = (v ≡ verdict_of (with_arc b at a)) × (new ≡ weight_ta
 pub record Blank (l : Loaded) : Type 0 where
   pub nothing_counted : l.counts ≡ record { vertices = 0; arcs = 0; sets = 0; paths = 0 }
   pub no_arcs : l.weights ≡ replicate pairs no_arc
-  pub no_flags : l.flags ≡ replicate most_sets 0
+  pub no_needs : l.needs ≡ replicate most_sets nothing_needed
   pub no_owners : l.owners ≡ replicate most_paths 0
   pub no_paths : l.entries ≡ replicate area_size 0

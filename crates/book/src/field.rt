@@ -1,12 +1,14 @@
 // One field of a book: the tests in their order, and what it adds to the tables.
-ghost use Rattle.std.specs.Prelude.{◌≡◌, ◌+◌, ◌≤◌, ◌<◌, length, ok_or, Some, MatchResult};
+ghost use Rattle.std.specs.Prelude.{◌≡◌, true, ◌+◌, ◌≤◌, ◌<◌, length, ok_or, Some, MatchResult};
+ghost use Rattle.dates.specs.Dates.{window_fits};
 ghost use Rattle.limits.specs.Limits.{most_vertices, most_sets, longest_path};
 ghost use Rattle.book.specs.Book.{Book, are_vertices, proper_arc, is_path};
-ghost use Rattle.book.specs.Reading.{u16_at, u32_at, end_at, length_at, kind_of, framed, taken, arc_of};
+ghost use Rattle.book.specs.Reading.{u16_at, u32_at, day_at, window_at, needs_at, end_at, length_at, kind_of, framed, taken, arc_of};
 ghost use Rattle.book.specs.Reading.{field as Reading-field, fits as Reading-fits, follows as Reading-follows};
 ghost use Rattle.book.specs.Tables.{IsGraph, IsLoaded, AreTables, Enters, Leaves, LoadedAs, left};
 
-use crate::{Arc, Counts, Kind, Loaded, Refusal, UnknownTag};
+use crate::{Arc, Counts, Kind, Loaded, Needs, Refusal, UnknownTag};
+use dates::{MonthDay, Window};
 use limits::{ENTRY, HEAVIEST, LONGEST_PATH, MOST_PATHS, MOST_SETS, MOST_VERTICES, NO_ARC, PAIRS};
 
 // A number becomes a kind by `match`: the tags are these four.
@@ -46,7 +48,7 @@ impl Kind {
         match self {
             Kind::VertexCount => n == 1,
             Kind::Arc => n == 6,
-            Kind::RuleSet => n == 2,
+            Kind::RuleSet => n == 2 || n == 6,
             Kind::Path => (2..=LONGEST_PATH).contains(&n),
         }
     }
@@ -138,6 +140,53 @@ pub fn enter_arc(
     Ok(())
 }
 
+// A day of the year: its day, its month.
+fn day_at(bytes: &[u8], i: usize) -> MonthDay
+    requires { i + 2 ≤ length bytes.now }
+    ensures { result ≡ day_at bytes.now i }
+{
+    MonthDay {
+        day: bytes[i],
+        month: bytes[i + 1],
+    }
+}
+
+// The window of a rule set's field, if it has one.
+fn window_at(bytes: &[u8], at: usize) -> Option<Window>
+    requires whole { end_at bytes.now at ≤ length bytes.now }
+    requires fit { Reading-fits (Some Kind.RuleSet) (length_at bytes.now at) ≡ true }
+    ensures { result ≡ window_at bytes.now at }
+{
+    if field_length(bytes, at) == 2 {
+        return None;
+    }
+    Some(Window {
+        first: day_at(bytes, at + 5),
+        last: day_at(bytes, at + 7),
+    })
+}
+
+// What the rule set of the field needs.
+fn needs_at(bytes: &[u8], at: usize) -> Needs
+    requires whole { end_at bytes.now at ≤ length bytes.now }
+    requires fit { Reading-fits (Some Kind.RuleSet) (length_at bytes.now at) ≡ true }
+    ensures { result ≡ needs_at bytes.now at }
+{
+    Needs {
+        flags: u16_at(bytes, at + 3),
+        window: window_at(bytes, at),
+    }
+}
+
+impl Needs {
+    // Whether the edges of its window, if it has one, are days.
+    fn is_valid(self) -> bool
+        ensures { result ≡ window_fits self.window }
+    {
+        self.window.is_none_or(|w| w.is_valid())
+    }
+}
+
 // Whether all are vertices of a book with so many.
 fn are_vertices(path: &[u8], vertices: usize) -> bool
     ensures { result ≡ are_vertices vertices path.now }
@@ -183,14 +232,19 @@ impl Loaded {
     }
 
     fn rule_set(&mut self, bytes: &[u8], at: usize) -> Result<(), Refusal>
-        requires { at + 5 ≤ length bytes.now }
+        requires whole { end_at bytes.now at ≤ length bytes.now }
+        requires fit { Reading-fits (Some Kind.RuleSet) (length_at bytes.now at) ≡ true }
         ensures { (b : Book) → IsLoaded b self.old → Leaves AreTables (taken (Some Kind.RuleSet) bytes.now b at) (left result self.new) }
     {
+        let needs = needs_at(bytes, at);
+        if !needs.is_valid() {
+            return Err(Refusal::Window(at));
+        }
         let k = self.counts.sets;
         if MOST_SETS <= k {
             return Err(Refusal::TooMany(at));
         }
-        self.flags[k] = u16_at(bytes, at + 3);
+        self.needs[k] = needs;
         self.counts.sets += 1;
         Ok(())
     }

@@ -8,13 +8,14 @@ ghost use Rattle.book.specs.Tables.{Blank, LoadedAs, left};
 
 mod field;
 
+use dates::Window;
 use field::field_end;
 pub use field::{enter_arc, is_path};
 use limits::{AREA, MOST_PATHS, MOST_SETS, NO_ARC, PAIRS};
 use std::fmt;
 use walks::ArcTable;
 
-// The refusals of 01, 1 to 13 in its order. A book's refusal holds the byte at which the field starts.
+// The refusals of 01 and 02. A book's refusal holds the byte at which the field starts.
 #[derive(Clone, Copy, PartialEq, Eq, Debug)]
 pub enum Refusal {
     Truncated(usize),
@@ -30,10 +31,12 @@ pub enum Refusal {
     Ended,
     NotStanding,
     Full,
+    Window(usize),
+    Date,
 }
 
 impl Refusal {
-    // 01's number of the refusal.
+    // The number of the refusal (01, 02).
     pub fn number(self) -> usize
         ensures { result ≡ number_of self }
     {
@@ -51,6 +54,8 @@ impl Refusal {
             Refusal::Ended => 11,
             Refusal::NotStanding => 12,
             Refusal::Full => 13,
+            Refusal::Window(_) => 14,
+            Refusal::Date => 15,
         }
     }
 
@@ -64,7 +69,8 @@ impl Refusal {
             | Refusal::Length(at)
             | Refusal::Value(at)
             | Refusal::Repeated(at)
-            | Refusal::TooMany(at) => Some(at),
+            | Refusal::TooMany(at)
+            | Refusal::Window(at) => Some(at),
             _ => None,
         }
     }
@@ -110,13 +116,20 @@ pub enum Kind {
 #[derive(Clone, Copy, PartialEq, Eq, Debug)]
 pub struct UnknownTag;
 
-// A book that has been read: its counts, its table of weights, the flags of its rule sets, and of each of its forbidden paths the rule
+// What a rule set needs of a batch: flags (01: marks), and a date in the window, if it has one.
+#[derive(Clone, Copy, PartialEq, Eq, Debug)]
+pub struct Needs {
+    pub flags: u16,
+    pub window: Option<Window>,
+}
+
+// A book that has been read: its counts, its table of weights, what its rule sets need, and of each of its forbidden paths the rule
 // set's index and the entry. The entries stand together, since they have the form of a runs area; the counts say how much of each table is used.
 #[derive(Drop)]
 pub struct Loaded {
     pub counts: Counts,
     pub weights: [u32; PAIRS],
-    pub flags: [u16; MOST_SETS],
+    pub needs: [Needs; MOST_SETS],
     pub owners: [u8; MOST_PATHS],
     pub entries: [u8; AREA],
 }
@@ -134,7 +147,10 @@ impl Loaded {
                 paths: 0,
             },
             weights: [NO_ARC; PAIRS],
-            flags: [0; MOST_SETS],
+            needs: [Needs {
+                flags: 0,
+                window: None,
+            }; MOST_SETS],
             owners: [0; MOST_PATHS],
             entries: [0; AREA],
         }

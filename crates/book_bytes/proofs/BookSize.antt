@@ -1,7 +1,8 @@
 -- Laws: how many bytes a book can have.
-use Rattle.std.specs.Prelude.{ℕ, ◌+◌, ◌-◌, ◌*◌, ◌≤◌, ◌<◌, ◌≡◌, refl, Bool, true, false, cond, not, ◌&&◌, ◌≢◌, eqb, leb, ltb, length, Option, Some, None}
+use Rattle.std.specs.Prelude.{ℕ, ◌+◌, ◌-◌, ◌*◌, ◌≤◌, ◌<◌, ◌≡◌, refl, Bool, true, false, cond, not, ◌&&◌, ◌||◌, ◌≢◌, eqb, leb, ltb, length, Option, Some, None}
 use Rattle.std.proofs.Common.{sym, ap, ◌∙◌, true≢false, ⊎_elim, arith, ltb-true, ltb-false, leb-true, eqb-true, eq-eqb, length-append}
 use Rattle.std.proofs.lemmas.Bool.{false≢true}
+use Rattle.std.proofs.lemmas.Bool.Decides.{nat_tests}
 use mathlib.Core.List.Memᴰ
 use mathlib.Core.List.{List, [], ◌∷◌, map, Memᴰ}
 use Rattle.std.proofs.lemmas.List.{length-map}
@@ -13,10 +14,10 @@ use Rattle.walks.specs.Graph.{Arc}
 use Rattle.book.specs.declared.Kind.{Kind}
 use Rattle.book.specs.declared.Kind.TheVariants.{VertexCount, Path}
 use Rattle.book.specs.Book.{Book, All, IsArc, PairsOnce, WellFormed, all_paths, given}
-use Rattle.book.specs.BookLaws.{paths-set}
+use Rattle.book.specs.BookLaws.{bare, paths-set}
 use Rattle.book.proofs.BookLaws.{given_cons, paths-path, length-sets-path, not-zero}
 use Rattle.book_bytes.specs.Bytes.{longest_book}
-use Rattle.book.specs.Reading.{length_at, end_at, count_at, arc_at, flags_at, path_at, follows, fits, proper, extended}
+use Rattle.book.specs.Reading.{length_at, end_at, count_at, arc_at, needs_at, path_at, follows, fits, proper, extended}
 
 -- ---- at most 64 * 63 arcs
 -- The number of a pair of different vertices: the head is one of 63.
@@ -76,7 +77,7 @@ module _ (n : ℕ) (few : n ≤ most_vertices) where
 
 -- ---- the bytes of a book's fields
 abbrev pub size : Book → ℕ
-size b = 4 + length b.arcs * 9 + length b.sets * 5 + length (all_paths b.sets) * 11
+size b = 4 + length b.arcs * 9 + length b.sets * 9 + length (all_paths b.sets) * 11
 
 pub size-bound : (b : Book) → WellFormed b → size b ≤ longest_book
 size-bound b w = omega (arith, few-arcs b.count w.few-vertices b.arcs w.arcs-proper w.pairs-once, w.few-sets, w.few-paths)
@@ -85,6 +86,10 @@ size-bound b w = omega (arith, few-arcs b.count w.few-vertices b.arcs w.arcs-pro
 pub record Sized (b : Book) (at : ℕ) : Type 0 where
   pub within : at ≤ size b
   pub first : b.count ≡ 0 → at ≡ 0
+
+-- a rule set's field is no longer with a window
+pub needs-length : (n : ℕ) → eqb n 2 || eqb n 6 ≡ true → n ≤ 6
+needs-length n e = grind (arith, nat_tests)
 
 pub next-sized : (k : Option Kind) (s : List ℕ) (b : Book) (at : ℕ) → WellFormed b → Sized b at → follows b.count (length b.sets) k ≡ true
     → fits k (length_at s at) ≡ true → proper k s b at ≡ true → Sized (extended k s b at) (end_at s at)
@@ -99,9 +104,9 @@ next-sized (Some Kind.Arc) s b at w z order fit value =
     record { within = omega (arith, z.within, six, length-append b.arcs (arc_at s at ∷ [])); first = λ e. absurd (omega (arith, some, e)) }
 next-sized (Some Kind.RuleSet) s b at w z order fit value =
     let some : 1 ≤ b.count = not-zero b.count order in
-    let two : length_at s at ≡ 2 = eqb-true _ 2 fit in
+    let six : length_at s at ≤ 6 = needs-length (length_at s at) fit in
     record {
-      within = omega (arith, z.within, two, length-append b.sets (record { flags = flags_at s at; paths = [] } ∷ []), ap length (paths-set (flags_at s at) b.sets));
+      within = omega (arith, z.within, six, length-append b.sets (bare (needs_at s at)), ap length (paths-set (needs_at s at) b.sets));
       first = λ e. absurd (omega (arith, some, e));
     }
 next-sized (Some Path) s b at w z order fit value =

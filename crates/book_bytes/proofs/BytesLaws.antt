@@ -1,13 +1,17 @@
 -- Laws of a book's bytes: each is a byte, and how many they are.
-use Rattle.std.specs.Prelude.{ℕ, ◌+◌, ◌*◌, ◌≤◌, ◌<◌, ◌≡◌, refl, length}
+use Rattle.std.specs.Prelude.{ℕ, ◌+◌, ◌*◌, ◌≤◌, ◌<◌, ◌≡◌, refl, length, Option, Some, None}
 use mathlib.Core.List.{List, [], ◌∷◌, ◌++◌, flat_map}
 use native.Mathlib.Omega.{arith}
 use Rattle.std.proofs.Common.{length-append}
 use Rattle.limits.specs.Limits.{most_vertices}
+use Rattle.dates.specs.declared.Window.{Window}
+use Rattle.dates.specs.Calendar.{IsWindow}
+use Rattle.dates.proofs.CalendarDays.{bounds}
 use Rattle.walks.specs.Graph.{Arc}
+use Rattle.book.specs.declared.Needs.{Needs}
 use Rattle.book.specs.Book.{RuleSet, Book, All, IsArc, IsPath, all_paths}
 use Rattle.book.proofs.BookLaws.{all_map, all_append, all_left, all_right}
-use Rattle.book_bytes.specs.Bytes.{AreBytes, count_field, arc_field, flags_field, path_field, set_fields, bytes_of, Keeps}
+use Rattle.book_bytes.specs.Bytes.{AreBytes, count_field, arc_field, window_bytes, needs_field, path_field, set_fields, bytes_of, ProperNeeds, Keeps}
 
 -- ---- every byte is below 256
 module _ {A : Type 0} (P : A → Type 0) (f : A → List ℕ) (each : (x : A) → P x → AreBytes (f x)) where
@@ -32,15 +36,25 @@ module _ (n : ℕ) (few : n ≤ most_vertices) where
   path_bytes : (p : List ℕ) → IsPath n p → AreBytes (path_field p)
   path_bytes p is = (omega arith, (omega (arith, is.eight), (omega arith, all_map (λ v h. omega arith) p is.below)))
 
-  sets-bytes : (ss : List RuleSet) → All (λ s. s.flags < 65536) ss → All (IsPath n) (all_paths ss) → AreBytes (flat_map set_fields ss)
+  needs-bytes : (f : Needs) → ProperNeeds f → AreBytes (needs_field f)
+  needs-bytes f is = go f.window is.edges
+    where
+      go : (o : Option Window) → ((w : Window) → o ≡ Some w → IsWindow w) → AreBytes (needs_field (record { flags = f.flags; window = o }))
+      go None edges = (omega arith, (omega arith, (omega arith, (omega (arith, is.flags-fit), (omega arith, tt)))))
+      go (Some w) edges =
+          let first = bounds w.first (edges w refl).0 in
+          let last = bounds w.last (edges w refl).1 in
+          (omega arith, (omega arith, (omega arith, (omega (arith, is.flags-fit), (omega arith, (omega arith, (omega arith, (omega arith, (omega arith, tt)))))))))
+
+  sets-bytes : (ss : List RuleSet) → All (λ s. ProperNeeds s.needs) ss → All (IsPath n) (all_paths ss) → AreBytes (flat_map set_fields ss)
   unfolding flat_map all_paths
-  sets-bytes [] flags paths = tt
-  sets-bytes (s ∷ ss) flags paths =
+  sets-bytes [] needs paths = tt
+  sets-bytes (s ∷ ss) needs paths =
       all_append (λ y. y < 256) (set_fields s) (flat_map set_fields ss)
-      (all_append (λ y. y < 256) (flags_field s.flags) (flat_map path_field s.paths)
-      (omega arith, (omega arith, (omega arith, (omega (arith, flags.0), (omega arith, tt)))))
+      (all_append (λ y. y < 256) (needs_field s.needs) (flat_map path_field s.paths)
+      (needs-bytes s.needs needs.0)
       (flat_bytes (IsPath n) path_field path_bytes s.paths (all_left (IsPath n) s.paths (all_paths ss) paths)))
-      (sets-bytes ss flags.1 (all_right (IsPath n) s.paths (all_paths ss) paths))
+      (sets-bytes ss needs.1 (all_right (IsPath n) s.paths (all_paths ss) paths))
 
 -- The bytes of a book that keeps the rules are bytes.
 pub bytes_below : (b : Book) → Keeps b → AreBytes (bytes_of b)
@@ -51,9 +65,14 @@ bytes_below b keeps =
     (all_append (λ y. y < 256) (count_field b.count) (flat_map arc_field b.arcs)
     (omega arith, (omega arith, (omega arith, (omega arith, tt))))
     (flat_bytes (IsArc b.count) arc_field (arc-bytes b.count few) b.arcs keeps.arcs-proper))
-    (sets-bytes b.count few b.sets keeps.flags-fit keeps.paths-proper)
+    (sets-bytes b.count few b.sets keeps.needs-proper keeps.paths-proper)
 
 -- ---- their number
+-- of the windows, four bytes each
+abbrev pub windows_size : List RuleSet → ℕ
+windows_size [] = 0
+windows_size (s ∷ ss) = length (window_bytes s.needs.window) + windows_size ss
+
 -- of paths, a head of three bytes and a byte a vertex
 abbrev pub paths_size : List (List ℕ) → ℕ
 paths_size [] = 0
@@ -73,20 +92,21 @@ paths_size-append : (ps qs : List (List ℕ)) → paths_size (ps ++ qs) ≡ path
 paths_size-append [] qs = omega arith
 paths_size-append (p ∷ ps) qs = omega (arith, paths_size-append ps qs)
 
-sets-length : (ss : List RuleSet) → length (flat_map set_fields ss) ≡ length ss * 5 + paths_size (all_paths ss)
+sets-length : (ss : List RuleSet) → length (flat_map set_fields ss) ≡ length ss * 5 + windows_size ss + paths_size (all_paths ss)
 unfolding flat_map all_paths
 sets-length [] = refl
 sets-length (s ∷ ss) =
     omega (
       arith,
-      length-append (flat_map path_field s.paths) (flat_map set_fields ss),
+      length-append (set_fields s) (flat_map set_fields ss),
+      length-append (needs_field s.needs) (flat_map path_field s.paths),
       paths-length s.paths,
       paths_size-append s.paths (all_paths ss),
       sets-length ss,
     )
 
--- The length of a book's bytes as a sum: 4 for the count, 9 for each arc, 5 for each rule set, and those of the paths.
-pub length-bytes : (b : Book) → length (bytes_of b) ≡ 4 + length b.arcs * 9 + length b.sets * 5 + paths_size (all_paths b.sets)
+-- The length of a book's bytes as a sum: 4 for the count, 9 for each arc, 5 for each rule set, and those of the windows and of the paths.
+pub length-bytes : (b : Book) → length (bytes_of b) ≡ 4 + length b.arcs * 9 + length b.sets * 5 + windows_size b.sets + paths_size (all_paths b.sets)
 unfolding bytes_of
 length-bytes b =
     omega (

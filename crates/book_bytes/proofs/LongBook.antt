@@ -1,26 +1,27 @@
 -- Laws: a book that is accepted is short, and of a longer byte string the first bad field is found within the first bytes.
 use Rattle.std.specs.Prelude
 use Rattle.std.specs.Prelude.{◌≡◌, refl, Bool, true, false, not, ◌&&◌, List, [], ◌∷◌, ◌++◌, leb, ltb, length, get_or, take, drop, Some, None}
-use Prim.Native.Nat.{ℕ, zero, suc, ◌+◌, ◌*◌, ◌≤◌, ◌<◌}
+use Prim.Native.Nat.{ℕ, zero, suc, ◌+◌, ◌≤◌, ◌<◌}
 use Rattle.std.proofs.Math.Path.{sym, ap}
 use Rattle.std.proofs.Common.{ap₂, subst, ◌∙◌, arith, le-leb, lt-ltb, ltb-false, leb-true, eqb-true, get_or-take, take-take}
 use Rattle.std.proofs.Math.Bool.{cond}
 use Rattle.std.proofs.lemmas.Bool.{false≢true}
 use Rattle.std.proofs.Math.Option.{Option, some}
 use Rattle.std.proofs.Math.Seq.{length-take-le}
-use Rattle.limits.specs.Limits.{longest_path, most_paths, most_sets, most_vertices}
+use Rattle.limits.specs.Limits.{longest_path}
 use Rattle.lists.specs.Test.{and-true}
-use Rattle.walks.specs.Graph.{Arc}
 use Rattle.book.specs.declared.Kind.{Kind}
 use Rattle.book.specs.declared.Kind.TheVariants.{VertexCount, Path}
 use Rattle.book.specs.declared.Refusal.{Refusal}
-use Rattle.book.specs.declared.Refusal.TheVariants.{Truncated, Tag, Length, Value, Repeated, TooMany}
+use Rattle.book.specs.declared.Refusal.TheVariants.{Truncated, Tag, Length}
 use Rattle.book.specs.Refusal.{first_failure}
-use Rattle.book.specs.Book.{Book, WellFormed, blank, given, proper_arc, are_vertices, all_paths}
+use Rattle.book.specs.Book.{Book, WellFormed, blank}
 use Rattle.book.proofs.BookLaws.{blank-well_formed, field-passed, field_extends, field-well_formed, and-then-accepted}
-use Rattle.book.specs.Reading.{Reading, accepted, refused, reading, fields, field, and_then, outcome, taken, content, extended, add_path, follows, fits, kind_of, kind_at, length_at, end_at, arc_at, flags_at, path_at}
+use Rattle.book.specs.Reading.{Reading, accepted, refused, reading, fields, field, and_then, outcome, taken, content, extended, follows, fits, kind_at, length_at, end_at, path_at}
 use Rattle.book_bytes.specs.Bytes.{longest_book}
-use Rattle.book_bytes.proofs.BookSize.{Sized, size-bound, next-sized}
+use Rattle.book_bytes.proofs.BookSize.{Sized, size-bound, needs-length, next-sized}
+use Rattle.book_bytes.proofs.Field.{value_at, same_kind, same_length, same_value}
+use Rattle.book_bytes.proofs.Adding.{told}
 
 -- ---- a field looks at no byte behind its own
 -- what the four tests of the frame and the rest come to
@@ -36,17 +37,10 @@ shape_same true true true w w' rest rest' e e' at h =
     let (p, p', q) = h refl in
     ap (λ v. shape true true true v rest e at) p ∙ q ∙ sym (ap (λ v. shape true true true v rest' e' at) p')
 
--- what the tests of the value come to: the book e where they hold
-abbrev taken_if : Bool → Bool → Bool → Book → ℕ → Reading
-taken_if value once space e at =
-    outcome
-    (first_failure (record { holds = value; refusal = Value at } ∷ record { holds = once; refusal = Repeated at } ∷ record { holds = space; refusal = TooMany at } ∷ []))
-    e
-
 fits-eight : (k : Prelude.Option Kind) (n : ℕ) → fits k n ≡ true → n ≤ longest_path
 fits-eight (Some VertexCount) n e = omega (arith, eqb-true n 1 e)
 fits-eight (Some Kind.Arc) n e = omega (arith, eqb-true n 6 e)
-fits-eight (Some Kind.RuleSet) n e = omega (arith, eqb-true n 2 e)
+fits-eight (Some Kind.RuleSet) n e = omega (arith, needs-length n e)
 fits-eight (Some Path) n e = leb-true n longest_path (and-true (leb 2 n) (leb n longest_path) e).1
 fits-eight None n e = absurd (false≢true e)
 
@@ -54,51 +48,26 @@ module _ (s : List ℕ) (m : ℕ) (b : Book) (at : ℕ) (within : at + 11 ≤ m)
   abbrev front : List ℕ
   front = take m s
 
-  byte : (i : ℕ) → i < at + 11 → get_or front i 0 ≡ get_or s i 0
-  byte i h = get_or-take m s i 0 (omega arith)
+  byte : (i k : ℕ) → i < at + 11 → i + at ≡ k + at → get_or front i 0 ≡ get_or s k 0
+  byte i k h e =
+      let there : k ≡ i = omega arith in
+      get_or-take m s i 0 (omega arith) ∙ ap (λ j. get_or s j 0) (sym there)
 
   kind-same : kind_at front at ≡ kind_at s at
-  kind-same = ap kind_of (byte at (omega arith))
+  kind-same = same_kind front s at at byte
 
   pub length-same : length_at front at ≡ length_at s at
-  length-same = ap₂ (λ x y. x * 256 + y) (byte (at + 1) (omega arith)) (byte (at + 1 + 1) (omega arith))
-
-  arc-same : arc_at front at ≡ arc_at s at
-  arc-same =
-      cc (
-        byte (at + 3) (omega arith),
-        byte (at + 4) (omega arith),
-        byte (at + 5) (omega arith),
-        byte (at + 5 + 1) (omega arith),
-        byte (at + 5 + 2) (omega arith),
-        byte (at + 5 + 2 + 1) (omega arith),
-      )
-
-  flags-same : flags_at front at ≡ flags_at s at
-  flags-same = ap₂ (λ x y. x * 256 + y) (byte (at + 3) (omega arith)) (byte (at + 3 + 1) (omega arith))
+  length-same = same_length front s at at byte
 
   path-same : length_at s at ≤ longest_path → path_at front at ≡ path_at s at
   path-same h = ap (λ n. drop (at + 3) (take (at + 3 + n) front)) length-same ∙ ap (drop (at + 3)) (take-take (at + 3 + length_at s at) m s (omega arith))
 
   taken-same : (k : Prelude.Option Kind) → length_at s at ≤ longest_path → taken k front b at ≡ taken k s b at
-  taken-same (Some VertexCount) h =
-      ap (λ c. taken_if (leb 1 c && leb c most_vertices) true true (record { count = c; arcs = b.arcs; sets = b.sets }) at) (byte (at + 3) (omega arith))
-  taken-same (Some Kind.Arc) h =
-      ap
-      (λ (a : Arc). taken_if (proper_arc b.count a) (not (given b.arcs a.tail a.head)) true
-      (record { count = b.count; arcs = b.arcs ++ (a ∷ []); sets = b.sets }) at)
-      arc-same
-  taken-same (Some Kind.RuleSet) h =
-      ap
-      (λ f. taken_if true true (ltb (length b.sets) most_sets)
-      (record { count = b.count; arcs = b.arcs; sets = b.sets ++ (record { flags = f; paths = [] } ∷ []) }) at)
-      flags-same
-  taken-same (Some Path) h =
-      ap
-      (λ p. taken_if (are_vertices b.count p) true (ltb (length (all_paths b.sets)) most_paths)
-      (record { count = b.count; arcs = b.arcs; sets = add_path b.sets p }) at)
-      (path-same h)
-  taken-same None h = refl
+  taken-same k h =
+      let value : value_at k front at ≡ value_at k s at = same_value front s at at byte k (path-same h) in
+      let one = told front b at k (value_at k s at) value in
+      let other = told s b at k (value_at k s at) refl in
+      cc (one.adds, one.value, one.season, one.once, other.adds, other.value, other.season, other.once)
 
   abbrev framed : Prelude.Option Kind → ℕ → List ℕ → Reading
   framed k n t =

@@ -1,14 +1,18 @@
--- A longest book: 64 vertices, an arc for each ordered pair of different ones, and 16 rule sets of 16 paths of 8 vertices.
-use Rattle.std.specs.Prelude.{ℕ, zero, suc, ◌+◌, ◌*◌, ◌<◌, ◌≡◌, refl, Bool, true, false, cond, ◌&&◌, ◌||◌, eqb, leb, ltb, length, replicate}
+-- A longest book: 64 vertices, an arc for each ordered pair of different ones, and 16 rule sets with a window, of 16 paths of 8 vertices.
+use Rattle.std.specs.Prelude.{ℕ, zero, suc, ◌+◌, ◌*◌, ◌<◌, ◌≡◌, refl, Bool, true, false, cond, ◌&&◌, ◌||◌, eqb, leb, ltb, length, replicate, Some}
 use Rattle.std.proofs.Common.{ap₂, ◌∙◌, ⊎_elim, arith, ltb-true, leb-true, eqb-true}
 use mathlib.Core.List.{List, [], ◌∷◌, flat_map}
 use Rattle.limits.specs.Limits.{most_vertices, most_sets, longest_path}
 use Rattle.lists.specs.Test.{all, and-true, either}
+use Rattle.dates.specs.declared.Window.{Window}
+use Rattle.dates.specs.Dates.{window_fits}
 use Rattle.walks.specs.Graph.{Arc}
+use Rattle.book.specs.declared.Needs.{Needs}
 use Rattle.book.specs.Book.{Book, All, PairsOnce, all_paths, given, proper_arc, are_vertices, is_path}
 use Rattle.book.proofs.BookLaws.{is-arc, is_path→IsPath, given_cons}
 use Rattle.book.specs.Reading.{accepted, reading}
-use Rattle.book_bytes.specs.Bytes.{AreBytes, bytes_of, Keeps, longest_book}
+use Rattle.book_bytes.specs.Bytes.{AreBytes, bytes_of, ProperNeeds, Keeps, longest_book}
+use Rattle.book_bytes.proofs.Adding.{edges-are}
 use Rattle.book_bytes.proofs.BytesLaws.{bytes_below, length-bytes}
 use Rattle.book_bytes.proofs.RoundTrip.{every_book_read}
 
@@ -24,11 +28,15 @@ vertices = up_from 0 most_vertices
 abbrev pub arcs_from : ℕ → List Arc
 arcs_from u = flat_map (λ v. cond (eqb u v) [] (record { tail = u; head = v; weight = 0 } ∷ [])) vertices
 
+-- from 1 January to 31 December
+abbrev pub all_year : Window
+all_year = record { first = record { day = 1; month = 1 }; last = record { day = 31; month = 12 } }
+
 unfoldable pub full_book : Book
 full_book = record {
   count = most_vertices;
   arcs = flat_map arcs_from vertices;
-  sets = replicate most_sets (record { flags = 0; paths = replicate 16 (up_from 0 longest_path) });
+  sets = replicate most_sets (record { needs = record { flags = 0; window = Some all_year }; paths = replicate 16 (up_from 0 longest_path) });
 }
 
 -- ---- it keeps the rules: by computed tests, each in one pass
@@ -84,6 +92,9 @@ paths-few : leb (length (all_paths full_book.sets)) 256 ≡ true
 unfolding full_book all_paths
 paths-few = refl
 
+proper-needs : (f : Needs) → (ltb f.flags 65536 ≡ true) × (window_fits f.window ≡ true) → ProperNeeds f
+proper-needs f e = record { flags-fit = ltb-true f.flags 65536 e.0; edges = (edges-are f.window).0 e.1 }
+
 pub full_keeps : Keeps full_book
 unfolding full_book
 full_keeps = record {
@@ -92,7 +103,7 @@ full_keeps = record {
   arcs-proper = tested (proper_arc most_vertices) (is-arc most_vertices) full_book.arcs arcs-all-proper;
   pairs-once = rising-once 0 full_book.arcs arcs_rise;
   few-sets = leb-true _ _ refl;
-  flags-fit = tested (λ s. ltb s.flags 65536) (λ s. ltb-true s.flags 65536) full_book.sets refl;
+  needs-proper = tested (λ s. ltb s.needs.flags 65536 && window_fits s.needs.window) (λ s e. proper-needs s.needs (and-true _ _ e)) full_book.sets refl;
   few-paths = leb-true _ _ paths-few;
   paths-proper = tested (is_path most_vertices) (is_path→IsPath most_vertices) (all_paths full_book.sets) paths-all-proper;
 }

@@ -1,5 +1,5 @@
 -- Laws: the bytes of a book that keeps the rules are read, field after field, as that book.
-use Rattle.std.specs.Prelude.{ℕ, zero, suc, ◌+◌, ◌≤◌, ◌≡◌, true, cond, ◌&&◌, eqb, Option, Some}
+use Rattle.std.specs.Prelude.{ℕ, zero, suc, ◌+◌, ◌≤◌, ◌≡◌, true, cond, ◌&&◌, eqb, Option, Some, None}
 use Rattle.std.proofs.Math.Path.{refl, ap, subst}
 use Rattle.std.proofs.Common.{sym, ap₂, ◌∙◌, arith}
 use Rattle.std.proofs.Math.Bool.{not}
@@ -8,15 +8,17 @@ use borrow.Author.Tests.{lt-ltb, le-ltb, le-leb, ne_eqb}
 use Rattle.std.proofs.Math.ListN.{length, length-append}
 use Rattle.limits.specs.Limits.{most_vertices, most_sets, most_paths}
 use Rattle.lists.specs.Test.{and-true}
+use Rattle.dates.specs.declared.Window.{Window}
 use Rattle.walks.specs.Graph.{Arc}
+use Rattle.book.specs.declared.Needs.{Needs}
 use Rattle.book.specs.declared.Kind.{Kind}
 use Rattle.book.specs.declared.Kind.TheVariants.{VertexCount, Path}
 use Rattle.book.specs.Book.{RuleSet, Book, blank, All, IsArc, PairsOnce, IsPath, all_paths, path_length, are_vertices, is_path}
 use Rattle.book.proofs.BookLaws.{all_left, all_right, arc-passes, not-before, IsPath→is_path}
-use Rattle.book.specs.Reading.{Reading, accepted, end_at, add_path, and_then, field, fields}
-use Rattle.book_bytes.specs.Bytes.{count_field, arc_field, path_field, set_fields, bytes_of, Keeps}
+use Rattle.book.specs.Reading.{Reading, accepted, end_at, fits, add_path, and_then, field, fields}
+use Rattle.book_bytes.specs.Bytes.{two_bytes, count_field, arc_field, window_bytes, path_field, set_fields, bytes_of, ProperNeeds, Keeps}
 use Rattle.book_bytes.proofs.Field.{Value, written, length-written}
-use Rattle.book_bytes.proofs.Adding.{added, Takes, end_read, field-read}
+use Rattle.book_bytes.proofs.Adding.{added, edges-are, Takes, end_read, field-read}
 
 -- The bytes x take what has been read from b to b'.
 pub data Reads : Book → List ℕ → Book → Type 0 where
@@ -52,7 +54,7 @@ book n arcs sets = record { count = n; arcs = arcs; sets = sets }
 
 count-read : (n : ℕ) → 1 ≤ n → n ≤ most_vertices → Reads blank (count_field n) (book n [] [])
 count-read n low high =
-    next (Some VertexCount) n (record { order = refl; fit = refl; value = ap₂ ◌&&◌ (le-leb 1 n low) (le-leb n most_vertices high); once = refl; space = refl }) stop
+    next (Some VertexCount) n (record { order = refl; fit = refl; value = ap₂ ◌&&◌ (le-leb 1 n low) (le-leb n most_vertices high); season = refl; once = refl; space = refl }) stop
 
 module _ (n : ℕ) (low : 1 ≤ n) where
   arcs-read : (done todo : List Arc) → All (IsArc n) todo → PairsOnce (done ++ todo)
@@ -66,6 +68,7 @@ module _ (n : ℕ) (low : 1 ≤ n) where
         order = ap (λ x. x && true) (not_none n low);
         fit = refl;
         value = arc-passes n a proper.0;
+        season = refl;
         once = ap not (not-before done a todo once);
         space = refl;
       })
@@ -73,9 +76,9 @@ module _ (n : ℕ) (low : 1 ≤ n) where
       (arcs-read (done ++ (a ∷ [])) todo proper.1 (subst PairsOnce (sym joined) once)))
 
 -- the rule sets: the last of them has the paths that were read of it
-module _ (f : ℕ) where
+module _ (f : Needs) where
   abbrev with_paths : List (List ℕ) → List RuleSet
-  with_paths ps = record { flags = f; paths = ps } ∷ []
+  with_paths ps = record { needs = f; paths = ps } ∷ []
 
   path-last : (done : List RuleSet) (ps : List (List ℕ)) (p : List ℕ) → add_path (done ++ with_paths ps) p ≡ done ++ with_paths (ps ++ (p ∷ []))
   unfolding add_path
@@ -88,8 +91,12 @@ unfolding all_paths
 paths_append [] rs = refl
 paths_append (s ∷ ss) rs = ap (λ l. s.paths ++ l) (paths_append ss rs) ∙ sym (append_assoc s.paths (all_paths ss) (all_paths rs))
 
+needs-fit : (flags : ℕ) (o : Option Window) → fits (Some Kind.RuleSet) (length (two_bytes flags ++ window_bytes o)) ≡ true
+needs-fit flags None = refl
+needs-fit flags (Some w) = refl
+
 module _ (n : ℕ) (arcs : List Arc) (low : 1 ≤ n) where
-  paths-read : (f : ℕ) (done : List RuleSet) (ps todo : List (List ℕ)) → All (IsPath n) todo → length (all_paths done) + length ps + length todo ≤ most_paths
+  paths-read : (f : Needs) (done : List RuleSet) (ps todo : List (List ℕ)) → All (IsPath n) todo → length (all_paths done) + length ps + length todo ≤ most_paths
       → Reads (book n arcs (done ++ with_paths f ps)) (flat_map path_field todo) (book n arcs (done ++ with_paths f (ps ++ todo)))
   unfolding flat_map all_paths
   paths-read f done ps [] proper few =
@@ -104,6 +111,7 @@ module _ (n : ℕ) (arcs : List Arc) (low : 1 ≤ n) where
         order = not_none (length sets) (omega (arith, length-append done (with_paths f ps)));
         fit = size;
         value = vertices;
+        season = refl;
         once = refl;
         space = lt-ltb (length (all_paths sets)) most_paths (omega (arith, so_far));
       })
@@ -111,24 +119,31 @@ module _ (n : ℕ) (arcs : List Arc) (low : 1 ≤ n) where
       (subst (λ l. Reads (book n arcs (done ++ with_paths f (ps ++ (p ∷ [])))) (flat_map path_field todo) (book n arcs (done ++ with_paths f l))) (append_assoc ps (p ∷ []) todo)
       (paths-read f done (ps ++ (p ∷ [])) todo proper.1 (omega (arith, length-append ps (p ∷ []))))))
 
-  sets-read : (done todo : List RuleSet) → length done + length todo ≤ most_sets → All (IsPath n) (all_paths todo)
+  sets-read : (done todo : List RuleSet) → length done + length todo ≤ most_sets → All (λ s. ProperNeeds s.needs) todo → All (IsPath n) (all_paths todo)
       → length (all_paths done) + length (all_paths todo) ≤ most_paths → Reads (book n arcs done) (flat_map set_fields todo) (book n arcs (done ++ todo))
   unfolding flat_map all_paths
-  sets-read done [] few proper few-paths = subst (λ l. Reads (book n arcs done) [] (book n arcs l)) (sym (append-nil done)) stop
-  sets-read done (s ∷ todo) few proper few-paths =
+  sets-read done [] few needs proper few-paths = subst (λ l. Reads (book n arcs done) [] (book n arcs l)) (sym (append-nil done)) stop
+  sets-read done (s ∷ todo) few needs proper few-paths =
       let both = length-append s.paths (all_paths todo) in
       let so_far : length (all_paths (done ++ (s ∷ []))) ≡ length (all_paths done) + length s.paths =
       ap length (paths_append done (s ∷ [])) ∙ length-append (all_paths done) (s.paths ++ []) ∙ ap (λ l. length (all_paths done) + length l) (append-nil s.paths) in
       and-then
-      (next (Some Kind.RuleSet) s.flags
-      (record { order = not_none n low; fit = refl; value = refl; once = refl; space = lt-ltb (length done) most_sets (omega arith) })
-      (paths-read s.flags done [] s.paths (all_left (IsPath n) s.paths (all_paths todo) proper) (omega arith)))
+      (next (Some Kind.RuleSet) s.needs
+      (record {
+        order = not_none n low;
+        fit = needs-fit s.needs.flags s.needs.window;
+        value = refl;
+        season = (edges-are s.needs.window).1 needs.0.edges;
+        once = refl;
+        space = lt-ltb (length done) most_sets (omega arith);
+      })
+      (paths-read s.needs done [] s.paths (all_left (IsPath n) s.paths (all_paths todo) proper) (omega arith)))
       (subst (λ l. Reads (book n arcs (done ++ (s ∷ []))) (flat_map set_fields todo) (book n arcs l)) (append_assoc done (s ∷ []) todo)
-      (sets-read (done ++ (s ∷ [])) todo (omega (arith, length-append done (s ∷ []))) (all_right (IsPath n) s.paths (all_paths todo) proper) (omega arith)))
+      (sets-read (done ++ (s ∷ [])) todo (omega (arith, length-append done (s ∷ []))) needs.1 (all_right (IsPath n) s.paths (all_paths todo) proper) (omega arith)))
 
 pub book-reads : (b : Book) → Keeps b → Reads blank (bytes_of b) b
 unfolding bytes_of all_paths
 book-reads b keeps =
     and-then
     (and-then (count-read b.count keeps.some-vertex keeps.few-vertices) (arcs-read b.count keeps.some-vertex [] b.arcs keeps.arcs-proper keeps.pairs-once))
-    (sets-read b.count b.arcs keeps.some-vertex [] b.sets (omega (arith, keeps.few-sets)) keeps.paths-proper (omega (arith, keeps.few-paths)))
+    (sets-read b.count b.arcs keeps.some-vertex [] b.sets (omega (arith, keeps.few-sets)) keeps.needs-proper keeps.paths-proper (omega (arith, keeps.few-paths)))

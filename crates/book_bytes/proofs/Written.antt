@@ -15,10 +15,10 @@ use Rattle.book.specs.declared.Kind.TheVariants.{VertexCount, Path}
 use Rattle.book.specs.Book.{RuleSet, Book, blank, All, IsArc, WellFormed}
 use Rattle.book.specs.BookLaws.{Passed}
 use Rattle.book.proofs.BookLaws.{all_snoc, not-zero, field-passed, field_extends, field-well_formed, blank-well_formed, reading-is-book, enough_turns, and-then-accepted}
-use Rattle.book.specs.Reading.{accepted, kind_at, length_at, end_at, follows, fits, proper, extended, add_path, field, fields, reading}
-use Rattle.book_bytes.specs.Bytes.{AreBytes, count_field, arc_field, flags_field, path_field, set_fields, bytes_of, Keeps}
+use Rattle.book.specs.Reading.{accepted, kind_at, length_at, end_at, window_at, follows, fits, proper, seasonal, extended, add_path, field, fields, reading}
+use Rattle.book_bytes.specs.Bytes.{AreBytes, count_field, arc_field, needs_field, path_field, set_fields, bytes_of, ProperNeeds, Keeps}
 use Rattle.book_bytes.proofs.Field.{Value, value_at, written, kind_moved, length_moved, value_moved, byte-below, field-again}
-use Rattle.book_bytes.proofs.Adding.{added, proper_value, extended-added, proper-value}
+use Rattle.book_bytes.proofs.Adding.{added, proper_value, seasonal_value, edges-are, Told, told}
 use Rattle.book_bytes.proofs.ReadsLaws.{stop, reads-fields}
 
 -- ---- a field adds its bytes to the book's
@@ -35,18 +35,18 @@ flat_path : (ss : List RuleSet) (p : List ℕ) → 1 ≤ length ss → flat_map 
 unfolding flat_map add_path
 flat_path [] p h = absurd (omega arith)
 flat_path (s ∷ []) p h =
-    let flags = flags_field s.flags in
-    append-nil (flags ++ flat_map path_field (s.paths ++ (p ∷ [])))
-    ∙ ap (λ l. flags ++ l) (flat_snoc path_field s.paths p)
-    ∙ sym (append_assoc flags (flat_map path_field s.paths) (path_field p))
+    let needs = needs_field s.needs in
+    append-nil (needs ++ flat_map path_field (s.paths ++ (p ∷ [])))
+    ∙ ap (λ l. needs ++ l) (flat_snoc path_field s.paths p)
+    ∙ sym (append_assoc needs (flat_map path_field s.paths) (path_field p))
     ∙ ap (λ l. l ++ path_field p) (sym (append-nil (set_fields s)))
 flat_path (s ∷ (s' ∷ ss)) p h = ap (λ l. set_fields s ++ l) (flat_path (s' ∷ ss) p (omega arith)) ∙ sym (append_assoc (set_fields s) _ _)
 
-flags-path : (ss : List RuleSet) (p : List ℕ) → All (λ s. s.flags < 65536) ss → All (λ s. s.flags < 65536) (add_path ss p)
+needs-path : (ss : List RuleSet) (p : List ℕ) → All (λ s. ProperNeeds s.needs) ss → All (λ s. ProperNeeds s.needs) (add_path ss p)
 unfolding add_path
-flags-path [] p h = tt
-flags-path (s ∷ []) p h = h
-flags-path (s ∷ (s' ∷ ss)) p h = (h.0, flags-path (s' ∷ ss) p h.1)
+needs-path [] p h = tt
+needs-path (s ∷ []) p h = h
+needs-path (s ∷ (s' ∷ ss)) p h = (h.0, needs-path (s' ∷ ss) p h.1)
 
 no_elements : {A : Type 0} (xs : List A) → length xs ≡ 0 → xs ≡ []
 no_elements [] e = refl
@@ -64,20 +64,20 @@ no_sets (s ∷ ss) n counted e = absurd (omega (arith, counted (omega arith)))
 pub record SoFar (b : Book) (front : List ℕ) : Type 0 where
   pub first : b.count ≡ 0 → front ≡ []
   pub later : 1 ≤ b.count → front ≡ bytes_of b
-  pub flags-fit : All (λ s. s.flags < 65536) b.sets
+  pub needs-proper : All (λ s. ProperNeeds s.needs) b.sets
 
--- flags of two bytes
-abbrev Fits16 : (k : Option Kind) → Value k → Type 0
-Fits16 (Some VertexCount) n = Unit
-Fits16 (Some Kind.Arc) a = Unit
-Fits16 (Some Kind.RuleSet) f = f < 65536
-Fits16 (Some Path) p = Unit
-Fits16 None v = Unit
+-- needs that the rules take
+abbrev Fit : (k : Option Kind) → Value k → Type 0
+Fit (Some VertexCount) n = Unit
+Fit (Some Kind.Arc) a = Unit
+Fit (Some Kind.RuleSet) f = ProperNeeds f
+Fit (Some Path) p = Unit
+Fit None v = Unit
 
 next_so_far : (k : Option Kind) (b : Book) (v : Value k) (front : List ℕ) → WellFormed b → SoFar b front → follows b.count (length b.sets) k ≡ true
-    → proper_value k b v ≡ true → Fits16 k v → SoFar (added k b v) (front ++ written k v)
+    → proper_value k b v ≡ true → Fit k v → SoFar (added k b v) (front ++ written k v)
 unfolding bytes_of flat_map
-next_so_far (Some VertexCount) b n front w z order value small =
+next_so_far (Some VertexCount) b n front w z order value needs =
     let none : b.count ≡ 0 = eqb-true b.count 0 order in
     let low : 1 ≤ n = leb-true 1 n (and-true (leb 1 n) (leb n most_vertices) value).0 in
     let arcs-none : b.arcs ≡ [] = no_arcs b.arcs (subst (λ c. All (IsArc c) b.arcs) none w.arcs-proper) in
@@ -87,9 +87,9 @@ next_so_far (Some VertexCount) b n front w z order value small =
       later =
           λ _. ap (λ l. l ++ count_field n) (z.first none)
           ∙ ap₂ (λ xs ss. count_field n ++ flat_map arc_field xs ++ flat_map set_fields ss) (sym arcs-none) (sym sets-none);
-      flags-fit = z.flags-fit;
+      needs-proper = z.needs-proper;
     }
-next_so_far (Some Kind.Arc) b a front w z order value small =
+next_so_far (Some Kind.Arc) b a front w z order value needs =
     let (some, none) = and-true (not (eqb b.count 0)) (eqb (length b.sets) 0) order in
     let low : 1 ≤ b.count = not-zero b.count some in
     let sets-none : b.sets ≡ [] = no_elements b.sets (eqb-true _ 0 none) in
@@ -101,18 +101,19 @@ next_so_far (Some Kind.Arc) b a front w z order value small =
           ∙ ap (λ l. count_field b.count ++ l) (sym (flat_snoc arc_field b.arcs a))
           ∙ sym (append-nil _)
           ∙ ap (λ ss. count_field b.count ++ flat_map arc_field (b.arcs ++ (a ∷ [])) ++ flat_map set_fields ss) (sym sets-none);
-      flags-fit = z.flags-fit;
+      needs-proper = z.needs-proper;
     }
-next_so_far (Some Kind.RuleSet) b f front w z order value small =
+next_so_far (Some Kind.RuleSet) b f front w z order value needs =
     let low : 1 ≤ b.count = not-zero b.count order in
     record {
       first = λ e. absurd (omega arith);
-      later = λ _. ap (λ l. l ++ flags_field f) (z.later low)
-          ∙ append_assoc (count_field b.count ++ flat_map arc_field b.arcs) (flat_map set_fields b.sets) (flags_field f)
-          ∙ ap (λ l. count_field b.count ++ flat_map arc_field b.arcs ++ l) (sym (flat_snoc set_fields b.sets (record { flags = f; paths = [] })));
-      flags-fit = all_snoc (λ s. s.flags < 65536) b.sets (record { flags = f; paths = [] }) z.flags-fit small;
+      later = λ _. ap (λ l. l ++ needs_field f) (z.later low)
+          ∙ append_assoc (count_field b.count ++ flat_map arc_field b.arcs) (flat_map set_fields b.sets) (needs_field f)
+          ∙ ap (λ l. count_field b.count ++ flat_map arc_field b.arcs ++ l)
+          (ap (λ l. flat_map set_fields b.sets ++ l) (sym (append-nil (needs_field f))) ∙ sym (flat_snoc set_fields b.sets (record { needs = f; paths = [] })));
+      needs-proper = all_snoc (λ s. ProperNeeds s.needs) b.sets (record { needs = f; paths = [] }) z.needs-proper needs;
     }
-next_so_far (Some Path) b p front w z order value small =
+next_so_far (Some Path) b p front w z order value needs =
     let some : 1 ≤ length b.sets = not-zero (length b.sets) order in
     let low : 1 ≤ b.count = w.counted some in
     record {
@@ -120,9 +121,9 @@ next_so_far (Some Path) b p front w z order value small =
       later = λ _. ap (λ l. l ++ path_field p) (z.later low)
           ∙ append_assoc (count_field b.count ++ flat_map arc_field b.arcs) (flat_map set_fields b.sets) (path_field p)
           ∙ ap (λ l. count_field b.count ++ flat_map arc_field b.arcs ++ l) (sym (flat_path b.sets p some));
-      flags-fit = flags-path b.sets p z.flags-fit;
+      needs-proper = needs-path b.sets p z.needs-proper;
     }
-next_so_far None b v front w z order value small = absurd (false≢true order)
+next_so_far None b v front w z order value needs = absurd (false≢true order)
 
 -- ---- all fields
 all_drop : {A : Type 0} (P : A → Type 0) (n : ℕ) (xs : List A) → All P xs → All P (drop n xs)
@@ -130,12 +131,13 @@ all_drop P zero xs h = h
 all_drop P (suc n) [] h = tt
 all_drop P (suc n) (x ∷ xs) h = all_drop P n xs h.1
 
-small_value : (k : Option Kind) (t : List ℕ) → AreBytes t → Fits16 k (value_at k t 0)
-small_value (Some VertexCount) t bytes = tt
-small_value (Some Kind.Arc) t bytes = tt
-small_value (Some Kind.RuleSet) t bytes = omega (arith, byte-below t bytes 3, byte-below t bytes 4)
-small_value (Some Path) t bytes = tt
-small_value None t bytes = tt
+fit_value : (k : Option Kind) (t : List ℕ) → AreBytes t → seasonal_value k (value_at k t 0) ≡ true → Fit k (value_at k t 0)
+fit_value (Some VertexCount) t bytes season = tt
+fit_value (Some Kind.Arc) t bytes season = tt
+fit_value (Some Kind.RuleSet) t bytes season =
+    record { flags-fit = omega (arith, byte-below t bytes 3, byte-below t bytes 4); edges = (edges-are (window_at t 0)).0 season }
+fit_value (Some Path) t bytes season = tt
+fit_value None t bytes season = tt
 
 -- one more field, whose bytes are the first of t
 module _ (front t : List ℕ) (bytes : AreBytes t) (b b' : Book) (w : WellFormed b) (z : SoFar b front)
@@ -152,21 +154,25 @@ module _ (front t : List ℕ) (bytes : AreBytes t) (b b' : Book) (w : WellFormed
   field-held : end_at t 0 ≤ length t
   field-held = omega (arith, passed.whole, length_moved front t, length-append front t)
 
+  says : Told (front ++ t) b (length front) k v
+  says = told (front ++ t) b (length front) k v (value_moved front t k)
+
   field-added : b' ≡ added k b v
   field-added =
       field_extends (front ++ t) b (length front) b' e
       ∙ ap (λ x. extended x (front ++ t) b (length front)) (kind_moved front t)
-      ∙ extended-added (front ++ t) b (length front) k
-      ∙ ap (added k b) (value_moved front t k)
+      ∙ says.adds
 
   field_so_far : SoFar b' (front ++ take (end_at t 0) t)
   field_so_far =
       let fit : fits k (length_at t 0) ≡ true = sym (ap₂ fits (kind_moved front t) (length_moved front t)) ∙ passed.fit in
       let order : follows b.count (length b.sets) k ≡ true = sym (ap (follows b.count (length b.sets)) (kind_moved front t)) ∙ passed.order in
       let value : proper_value k b v ≡ true =
-      sym (ap (λ x. proper x (front ++ t) b (length front)) (kind_moved front t) ∙ proper-value (front ++ t) b (length front) k ∙ ap (proper_value k b) (value_moved front t k)) ∙ passed.value in
+      sym (ap (λ x. proper x (front ++ t) b (length front)) (kind_moved front t) ∙ says.value) ∙ passed.value in
+      let season : seasonal_value k v ≡ true =
+      sym (ap (λ x. seasonal x (front ++ t) (length front)) (kind_moved front t) ∙ says.season) ∙ passed.season in
       subst (λ c. SoFar c (front ++ take (end_at t 0) t)) (sym field-added)
-      (subst (λ l. SoFar (added k b v) (front ++ l)) (sym (field-again t bytes field-held fit)) (next_so_far k b v front w z order value (small_value k t bytes)))
+      (subst (λ l. SoFar (added k b v) (front ++ l)) (sym (field-again t bytes field-held fit)) (next_so_far k b v front w z order value (fit_value k t bytes season)))
 
 module _ (b' : Book) where
   -- from what has been read, the fields of t lead to b'
@@ -214,7 +220,7 @@ module _ (s : List ℕ) (bytes : AreBytes s) (b : Book) (e : reading s ≡ accep
       go [] bytes e = absurd (let no : ◌≡◌ {A = ℕ} 0 1 = cc in omega arith)
       go (x ∷ s) bytes e =
           fields_so_far b (length (x ∷ s)) [] (x ∷ s) blank (omega arith) bytes blank-well_formed
-          (record { first = λ _. refl; later = λ h. absurd (omega arith); flags-fit = tt })
+          (record { first = λ _. refl; later = λ h. absurd (omega arith); needs-proper = tt })
           (sym (enough_turns (length (x ∷ s)) x s (omega arith)) ∙ e)
 
   pub read_keeps : Keeps b
@@ -226,7 +232,7 @@ module _ (s : List ℕ) (bytes : AreBytes s) (b : Book) (e : reading s ≡ accep
         arcs-proper = is.well_formed.arcs-proper;
         pairs-once = is.well_formed.pairs-once;
         few-sets = is.well_formed.few-sets;
-        flags-fit = read_so_far.flags-fit;
+        needs-proper = read_so_far.needs-proper;
         few-paths = is.well_formed.few-paths;
         paths-proper = is.well_formed.paths-proper;
       }

@@ -5,6 +5,7 @@ use Rattle.std.proofs.Common.{sym, ap, subst, ◌∙◌, inl, inr, arith}
 use Rattle.std.proofs.Math.Option.{Option, none, some, none-ne-some}
 use Rattle.std.proofs.lemmas.List.{length-map}
 use Rattle.limits.specs.Limits.{most_vertices, area_size, longest}
+use Rattle.dates.specs.Calendar.{IsDate}
 use Rattle.walks.specs.Graph.{Graph}
 use Rattle.walks.specs.Walk.{weight_of, hops}
 use Rattle.states.specs.Chosen.{Decided, chosen}
@@ -21,6 +22,7 @@ use Rattle.rules.specs.ValidLaws.{Valid}
 use Rattle.rules.proofs.ValidLaws.{valid→Valid}
 use Rattle.rules.specs.Operations.{Binding, bound_unless, bind_tests, bound_as, binding_of, binding, area_after}
 use Rattle.rules.proofs.Laws.{bind-accepted}
+use Rattle.rules.specs.declared.Batch.{Batch}
 use Rattle.walk_check.proofs.Laws.{sizes}
 use Rattle.walk_check.specs.Checking.{checked_unless, occurrence, check_tests, checking}
 use Rattle.planner.specs.Planning.{plan_tests, Planned, PlanningOf}
@@ -34,6 +36,7 @@ use Rattle.series.specs.Reports.{reports_of}
 use Rattle.demands.specs.Demands.{ClearOrOccurs, tests_of_begin, WalkOrNone, GetsPlan, Answers}
 use Rattle.demands.proofs.RefusalLaws.{check_finds}
 use Rattle.demands.specs.Conditions.{AllHold}
+use Rattle.demands.proofs.Conditions.{zero_one}
 use Rattle.demands.specs.Asked.{plan_conditions, check_conditions}
 use Rattle.demands.proofs.Asked.{conditions}
 
@@ -50,7 +53,7 @@ module _ (g : Graph) (F : List (List ℕ)) (start end : ℕ) (old : List ℕ) wh
   an_answer (some w) (best, short) =
       (walked (weight_of g w) (hops w), w ++ drop (length w) old, record { walk = w; best = best; weight_is = refl; hops-is = refl; area-is = refl })
 
-plan_gets : (x : Reading) (paths : List ℕ) (count start end : ℕ) (walk : List ℕ) (b : Book) → x ≡ accepted b → b.count ≤ most_vertices → AllHold (plan_conditions paths count start end walk b)
+pub plan_gets : (x : Reading) (paths : List ℕ) (count start end : ℕ) (walk : List ℕ) (b : Book) → x ≡ accepted b → b.count ≤ most_vertices → AllHold (plan_conditions paths count start end walk b)
     → GetsPlan (PlanningOf x paths count start end walk)
 plan_gets x paths count start end walk b read few h =
     let none-refused : refusal_of x (plan_tests paths count start end walk) ≡ none = ((conditions x).plan paths count start end walk).accepts.1 (b, read, h) in
@@ -77,32 +80,40 @@ begun_gets none σ paths walk e = (σ.rec, refl)
 begun_gets (some x) σ paths walk e = absurd (none-ne-some x (sym e))
 
 -- ---- an accepted book
--- What binding gives is the known paths, and its area is valid.
-module _ (s : List ℕ) (b : Book) (read : reading s ≡ accepted b) (flags : ℕ) (area : List ℕ) where
-  pub binds : area_size ≤ length area → binding s flags area ≡ Binding.bound (known flags b.sets)
-  binds fits =
-      let none-refused : refusal_by (bind_tests area b) ≡ none = ((conditions (accepted b)).bind area).accepts.1 (b, refl, (fits, tt)) in
-      ap (λ x. binding_of x flags area) read ∙ ap (λ o. bound_unless o (known flags b.sets)) none-refused
+-- A batch that binds has a date.
+pub dated : (s : List ℕ) (batch : Batch) (area : List ℕ) (n : ℕ) → bound_as (binding s batch area) ≡ Ok n → IsDate batch.date
+dated s batch area n is = (((conditions (reading s)).bind batch area).accepts.0 (unrefused (refusal_of (reading s) (bind_tests batch area)) is)).2.1.0
+  where
+    unrefused : (o : Option Refusal) → bound_as (bound_unless o (known batch (book_in (reading s)).sets)) ≡ Ok n → o ≡ none
+    unrefused none e = refl
+    unrefused (some x) e = zero_one (cc)
 
-  pub binds-valid : area_size ≤ length area
-      → (area_size ≤ length (area_after (binding s flags area) area)) × Valid b.count (area_after (binding s flags area) area) (length (known flags b.sets))
-  binds-valid fits =
-      let f = bind-accepted s flags area (known flags b.sets) (binds fits) in
+-- What binding gives is the known paths, and its area is valid.
+module _ (s : List ℕ) (b : Book) (read : reading s ≡ accepted b) (batch : Batch) (area : List ℕ) where
+  pub binds : area_size ≤ length area → IsDate batch.date → binding s batch area ≡ Binding.bound (known batch b.sets)
+  binds fits date =
+      let none-refused : refusal_by (bind_tests batch area b) ≡ none = ((conditions (accepted b)).bind batch area).accepts.1 (b, refl, (fits, (date, tt))) in
+      ap (λ x. binding_of x batch area) read ∙ ap (λ o. bound_unless o (known batch b.sets)) none-refused
+
+  pub binds-valid : area_size ≤ length area → IsDate batch.date
+      → (area_size ≤ length (area_after (binding s batch area) area)) × Valid b.count (area_after (binding s batch area) area) (length (known batch b.sets))
+  binds-valid fits date =
+      let f = bind-accepted s batch area (known batch b.sets) (binds fits date) in
       let b-is : f.book ≡ b = ap book_in (sym f.read ∙ read) in
-      (f.long, subst (λ (x : Book). Valid x.count (area_after (binding s flags area) area) (length (known flags b.sets))) b-is (valid→Valid _ _ _ f.validity))
+      (f.long, subst (λ (x : Book). Valid x.count (area_after (binding s batch area) area) (length (known batch b.sets))) b-is (valid→Valid _ _ _ f.validity))
 
 -- Demand 1, of an accepted book.
-pub answers : (s : List ℕ) (b : Book) → reading s ≡ accepted b → (flags start end : ℕ) → start < b.count → end < b.count
-    → (paths walk : List ℕ) → area_size ≤ length paths → longest ≤ length walk → Answers s b flags start end paths walk
-answers s b read flags start end start-below end_Below paths walk runs-area walk-area =
+pub answers : (s : List ℕ) (b : Book) → reading s ≡ accepted b → (batch : Batch) → IsDate batch.date → (start end : ℕ) → start < b.count → end < b.count
+    → (paths walk : List ℕ) → area_size ≤ length paths → longest ≤ length walk → Answers s b batch start end paths walk
+answers s b read batch date start end start-below end_Below paths walk runs-area walk-area =
     let few = (reading-is-book s b read).well_formed.few-vertices in
-    let after = area_after (binding s flags paths) paths in
-    let n = length (known flags b.sets) in
-    let (long, runs) = binds-valid s b read flags paths runs-area in
-    let none-refused = ((conditions (reading s)).begin start end paths walk).accepts.1 (b, read, (runs-area, (walk-area, (start-below, (end_Below, tt))))) in
+    let after = area_after (binding s batch paths) paths in
+    let n = length (known batch b.sets) in
+    let (long, runs) = binds-valid s b read batch paths runs-area date in
+    let none-refused = ((conditions (reading s)).begin batch start end paths walk).accepts.1 (b, read, (runs-area, (walk-area, (start-below, (end_Below, (date, tt)))))) in
     record {
       read = ap read_as read;
-      bound = ap bound_as (binds s b read flags paths runs-area);
+      bound = ap bound_as (binds s b read batch paths runs-area date);
       planned =
           plan_gets (reading s) after n start end walk b read few
           (long, (walk-area, (start-below, (end_Below, (runs, tt)))));
@@ -110,8 +121,8 @@ answers s b read flags start end start-below end_Below paths walk runs-area walk
           plan_gets (listing k xs) after n start end walk (record { count = b.count; arcs = arcs_of xs; sets = [] }) (ap (λ m. listing m xs) k-is ∙ listed-book s b read xs same) few
           (long, (walk-area, (start-below, (end_Below, (runs, tt)))));
       checked = λ w short is. check_gets s after n w b read (long, (runs, ((short, is), tt)));
-      begun = begun_gets (refusal_of (reading s) (tests_of_begin start end paths walk)) (first_state (book_in (reading s)) flags start end paths walk) paths walk none-refused;
-      replayed = λ reports. begun_gets (refusal_of (reading s) (tests_of_begin start end paths walk)) (replayed-state reports) paths walk none-refused;
+      begun = begun_gets (refusal_of (reading s) (tests_of_begin batch start end paths walk)) (first_state (book_in (reading s)) batch start end paths walk) paths walk none-refused;
+      replayed = λ reports. begun_gets (refusal_of (reading s) (tests_of_begin batch start end paths walk)) (replayed-state reports) paths walk none-refused;
       planned-under = λ count runs.
           plan_gets (reading s) paths count start end walk b read few
           (runs-area, (walk-area, (start-below, (end_Below, (runs, tt)))));
@@ -121,4 +132,4 @@ answers s b read flags start end start-below end_Below paths walk runs-area walk
     replayed-state : List ℕ → State
     replayed-state reports =
         let g = graph (book_in (reading s)) in
-        run g (chosen g) (first_state (book_in (reading s)) flags start end paths walk) (reports_of reports)
+        run g (chosen g) (first_state (book_in (reading s)) batch start end paths walk) (reports_of reports)

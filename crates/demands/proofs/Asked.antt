@@ -10,6 +10,7 @@ use Rattle.walks.specs.Walk.{Walk, is_walk}
 use Rattle.walks.proofs.Walk.{is_walk→Walk, Walk→is_walk}
 use Rattle.walks.specs.Avoid.{occurs}
 use Rattle.walks.proofs.Avoid.{occurs→Occurs, Occurs→occurs}
+use Rattle.dates.proofs.CalendarLaws.{date-is}
 use Rattle.book.specs.declared.Refusal.{Refusal}
 use Rattle.book.specs.Refusal.{Test, order, in_order, refusal_by}
 use Rattle.book.specs.Book.{Book, graph, is_path}
@@ -20,6 +21,7 @@ use Rattle.rules.proofs.AreaLaws.{length-blocks}
 use Rattle.rules.specs.ValidLaws.{Valid}
 use Rattle.rules.proofs.ValidLaws.{valid→Valid, written-valid}
 use Rattle.rules.specs.Operations.{bind_tests}
+use Rattle.rules.specs.declared.Batch.{Batch}
 use Rattle.walk_check.specs.Checking.{check_tests}
 use Rattle.planner.specs.Planning.{plan_tests}
 use Rattle.reach.specs.Reaching.{reach_tests}
@@ -94,8 +96,8 @@ room-iff σ passed = (λ _. tt, λ _. refl)
 room-iff σ (failed p) = lt_iff σ.rec.known most_paths
 
 -- ---- each operation
-bind-decides : (area : List ℕ) (b : Book) → Decides 0 (bind_tests area b) (bind_conditions area b)
-bind-decides area b = (le_iff area_size (length area), (refl, refl), λ _. tt)
+bind-decides : (batch : Batch) (area : List ℕ) (b : Book) → Decides 0 (bind_tests batch area b) (bind_conditions batch area b)
+bind-decides batch area b = (le_iff area_size (length area), (refl, refl), λ _. (date-is batch.date, (refl, refl), λ _. tt))
 
 check-decides : (area : List ℕ) (count : ℕ) (w : List ℕ) (b : Book) → Decides 0 (check_tests area count w b) (check_conditions area count w b)
 check-decides area count w b = (
@@ -126,11 +128,15 @@ reach-decides paths count start table b = (
   λ _. (le_iff (2 * b.count) (length table), (refl, refl), λ _. (lt_iff start b.count, (refl, refl), λ _. (valid-iff b.count paths count, (refl, refl), λ _. tt))),
 )
 
-begin-decides : (start end : ℕ) (paths walk : List ℕ) (b : Book) → Decides 0 (begin_tests (graph b) start end paths walk) (begin_conditions start end paths walk b)
-begin-decides start end paths walk b = (
+begin-decides : (batch : Batch) (start end : ℕ) (paths walk : List ℕ) (b : Book) → Decides 0 (begin_tests batch (graph b) start end paths walk) (begin_conditions batch start end paths walk b)
+begin-decides batch start end paths walk b = (
   le_iff area_size (length paths),
   (refl, refl),
-  λ _. (le_iff longest (length walk), (refl, refl), λ _. (lt_iff start b.count, (refl, refl), λ _. (lt_iff end b.count, (refl, refl), λ _. tt))),
+  λ _. (
+    le_iff longest (length walk),
+    (refl, refl),
+    λ _. (lt_iff start b.count, (refl, refl), λ _. (lt_iff end b.count, (refl, refl), λ _. (date-is batch.date, (refl, refl), λ _. tt))),
+  ),
 )
 
 report-decides : (r : Record) (paths walk : List ℕ) (ρ : Report) (b : Book) → Decides 0 (report_tests r paths walk ρ b) (report_conditions r paths walk ρ b)
@@ -156,12 +162,12 @@ report-decides r paths walk ρ b =
 pub conditions : (r : Reading) → Conditions r
 conditions r =
     record {
-      bind = λ area. judges (bind_tests area) (bind_conditions area) (bind-decides area) r;
+      bind = λ batch area. judges (bind_tests batch area) (bind_conditions batch area) (bind-decides batch area) r;
       check = λ area count w. judges (check_tests area count w) (check_conditions area count w) (check-decides area count w) r;
       plan = λ paths count start end walk.
           judges (plan_tests paths count start end walk) (plan_conditions paths count start end walk) (plan-decides paths count start end walk) r;
       reach = λ paths count start table. judges (reach_tests paths count start table) (reach_conditions paths count start table) (reach-decides paths count start table) r;
-      begin = λ start end paths walk.
-          judges (λ b. begin_tests (graph b) start end paths walk) (begin_conditions start end paths walk) (begin-decides start end paths walk) r;
+      begin = λ batch start end paths walk.
+          judges (λ b. begin_tests batch (graph b) start end paths walk) (begin_conditions batch start end paths walk) (begin-decides batch start end paths walk) r;
       report = λ q paths walk ρ. judges (report_tests q paths walk ρ) (report_conditions q paths walk ρ) (report-decides q paths walk ρ) r;
     }

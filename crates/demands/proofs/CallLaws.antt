@@ -15,6 +15,7 @@ use Rattle.book.specs.Refusal.{number_of, test, refusal_by}
 use Rattle.book.specs.Book.{Book, WellFormed, graph}
 use Rattle.book.specs.Reading.{accepted, reading, refusal_of, book_in}
 use Rattle.rules.specs.Binding.{known}
+use Rattle.rules.specs.declared.Batch.{Batch}
 use Rattle.trial_record.specs.declared.Record.{Record}
 use Rattle.trial_rules.specs.Trials.{Report, passed, failed, State, path_area, is_named, has_room, oracle_tests, refusal, Valid, begin_refusal, unless, step, after, accepted as acceptedFrom, EachAccepted, Begin}
 use Rattle.trial_rules.specs.Lacking.{lacking, together}
@@ -38,40 +39,40 @@ how_many_once h k =
     let less = distinct-length k.listed h.listed k.once (λ r i. (h.each r).1 ((k.each r).0 i)) in
     omega (arith, h.number, k.number)
 
-module _ (b : Book) (w : WellFormed b) (flags : ℕ) (R : List (List ℕ)) where
+module _ (b : Book) (w : WellFormed b) (batch : Batch) (R : List (List ℕ)) where
   abbrev F₀ : List (List ℕ)
-  F₀ = known flags b.sets
+  F₀ = known batch b.sets
 
-  pub many_of_either : HowMany (OfEither b flags R) (length (together F₀ R))
+  pub many_of_either : HowMany (OfEither b batch R) (length (together F₀ R))
   many_of_either =
-      let d = together-is F₀ R (known-set flags b w).distinct in
+      let d = together-is F₀ R (known-set batch b w).distinct in
       record {
         listed = together F₀ R;
         once = d.distinct;
         each =
             λ r. (
-              λ m. ⊎_elim (λ k. inl (known→sheet b flags k)) inr (Memᴰ.append_cases F₀ (d.from r m)),
-              ⊎_elim (λ o. d.into r (Memᴰ.append_left R (sheet→known b flags o))) (λ m. d.into r (Memᴰ.append_right F₀ m)),
+              λ m. ⊎_elim (λ k. inl (known→sheet b batch k)) inr (Memᴰ.append_cases F₀ (d.from r m)),
+              ⊎_elim (λ o. d.into r (Memᴰ.append_left R (sheet→known b batch o))) (λ m. d.into r (Memᴰ.append_right F₀ m)),
             );
         number = refl;
       }
 
-  pub many_labs_only : HowMany (LabsOnly b flags R) (length (lacking F₀ R))
+  pub many_labs_only : HowMany (LabsOnly b batch R) (length (lacking F₀ R))
   many_labs_only =
       record {
         listed = lacking F₀ R;
         once = lacking-distinct F₀ R;
         each =
             λ r. (
-              λ m. ((lacking-from F₀ R r m).0, λ o. (lacking-from F₀ R r m).1 (sheet→known b flags o)),
-              λ h. lacking-into F₀ R r h.0 (λ m. h.1 (known→sheet b flags m)),
+              λ m. ((lacking-from F₀ R r m).0, λ o. (lacking-from F₀ R r m).1 (sheet→known b batch o)),
+              λ h. lacking-into F₀ R r h.0 (λ m. h.1 (known→sheet b batch m)),
             );
         number = refl;
       }
 
 -- ---- walks that are free
-module _ {b : Book} {flags : ℕ} {R : List (List ℕ)} {start end : ℕ} {w : List ℕ} where
-  pub free→feasible : Free b flags R start end w → Feasible (graph b) (known flags b.sets ++ R) start end w
+module _ {b : Book} {batch : Batch} {R : List (List ℕ)} {start end : ℕ} {w : List ℕ} where
+  pub free→feasible : Free b batch R start end w → Feasible (graph b) (known batch b.sets ++ R) start end w
   free→feasible f =
       let c = f.avoids_lab in
       record {
@@ -80,16 +81,16 @@ module _ {b : Book} {flags : ℕ} {R : List (List ℕ)} {start end : ℕ} {w : L
         ends = c.ends;
         clear =
             λ r m.
-            ⊎_elim (λ k. f.avoids_sheets r (known→sheet b flags k)) (c.clear r)
-            (Memᴰ.append_cases (known flags b.sets) m);
+            ⊎_elim (λ k. f.avoids_sheets r (known→sheet b batch k)) (c.clear r)
+            (Memᴰ.append_cases (known batch b.sets) m);
       }
 
-  pub feasible→free : Feasible (graph b) (known flags b.sets ++ R) start end w → Free b flags R start end w
+  pub feasible→free : Feasible (graph b) (known batch b.sets ++ R) start end w → Free b batch R start end w
   feasible→free f =
       record {
-        avoids_sheets = λ r o. f.clear r (Memᴰ.append_left R (sheet→known b flags o));
+        avoids_sheets = λ r o. f.clear r (Memᴰ.append_left R (sheet→known b batch o));
         avoids_lab =
-            record { walk = f.walk; starts = f.starts; ends = f.ends; clear = Avoids-mono (λ r m. Memᴰ.append_right (known flags b.sets) m) f.clear };
+            record { walk = f.walk; starts = f.starts; ends = f.ends; clear = Avoids-mono (λ r m. Memᴰ.append_right (known batch b.sets) m) f.clear };
       }
 
 -- ---- answers
@@ -143,21 +144,21 @@ module _ (s : List ℕ) (b : Book) (read : reading s ≡ accepted b) where
       (sym (answer-is σ v ρ _ only) ∙ e)
 
   -- An accepted begin on the book: the trials that it opens.
-  module _ (flags start end : ℕ) (paths walk : List ℕ) where
-    begun_ok : (σ : State) (r : Record) → (begun_as (begin_refusal (graph b) start end paths walk) σ paths walk).answer ≡ Ok r
-        → begin_refusal (graph b) start end paths walk ≡ none
-    begun_ok σ r e = go (begin_refusal (graph b) start end paths walk) e
+  module _ (batch : Batch) (start end : ℕ) (paths walk : List ℕ) where
+    begun_ok : (σ : State) (r : Record) → (begun_as (begin_refusal batch (graph b) start end paths walk) σ paths walk).answer ≡ Ok r
+        → begin_refusal batch (graph b) start end paths walk ≡ none
+    begun_ok σ r e = go (begin_refusal batch (graph b) start end paths walk) e
       where
         go : (o : Option Refusal) → (begun_as o σ paths walk).answer ≡ Ok r → o ≡ none
         go none f = refl
         go (some x) f = absurd (let z : ◌≡◌ {A = ℕ} 0 1 = cc in omega arith)
 
-    pub begin_ok : (r : Record) → (beginning s flags start end paths walk).answer ≡ Ok r → begin_refusal (graph b) start end paths walk ≡ none
-    begin_ok r e = begun_ok (first_state b flags start end paths walk) r (sym (ap (λ x. (beginning_of x flags start end paths walk).answer) read) ∙ e)
+    pub begin_ok : (r : Record) → (beginning s batch start end paths walk).answer ≡ Ok r → begin_refusal batch (graph b) start end paths walk ≡ none
+    begin_ok r e = begun_ok (first_state b batch start end paths walk) r (sym (ap (λ x. (beginning_of x batch start end paths walk).answer) read) ∙ e)
 
-    module _ (ok : begin_refusal (graph b) start end paths walk ≡ none) where
+    module _ (ok : begin_refusal batch (graph b) start end paths walk ≡ none) where
       abbrev t : Begin
-      t = opened s b read flags start end paths walk ok
+      t = opened s b read batch start end paths walk ok
 
       -- what stands is in order
       abbrev InOrder : State → Type 0

@@ -20,6 +20,7 @@ use Rattle.book.specs.Reading.{accepted, reading}
 use Rattle.rules.specs.Area.{spelled}
 use Rattle.rules.specs.ValidLaws.{Valid}
 use Rattle.rules.specs.Operations.{bound_as, binding, area_after}
+use Rattle.rules.specs.declared.Batch.{Batch}
 use Rattle.planner.specs.Planning.{plan_tests, Planned, PlanningOf}
 use Rattle.planner.proofs.ValidArea.{valid-bounded}
 use Rattle.ends.specs.Ends.{no_end, entry_of, ends}
@@ -27,7 +28,7 @@ use Rattle.ends.proofs.EndsLaws.{length-ends, ends-weight, ends-hops, entry-best
 use Rattle.reach.specs.Reaching.{reach_tests, answer_by, table_by, Reaching}
 use Rattle.demands.proofs.Asked.{conditions}
 use Rattle.demands.specs.Demands.{entry_for, entry_at, PlanTo, EveryEnd}
-use Rattle.demands.proofs.AnswerLaws.{answers, binds-valid}
+use Rattle.demands.proofs.AnswerLaws.{plan_gets, dated, binds-valid}
 use Rattle.demands.proofs.PlanLaws.{count-is}
 
 -- An entry has two numbers.
@@ -109,7 +110,7 @@ module _ (s : List ℕ) (b : Book) (read : reading s ≡ accepted b) (paths : Li
         record {
           answer = refl;
           entry = λ end h r p. entry-at end h ∙ plan-entry end h r p;
-          planned = λ end h walk fits. (answers s b read 0 start end below h paths walk area fits).planned-under count runs;
+          planned = λ end h walk fits. plan_gets (reading s) paths count start end walk b read well.few-vertices (area, (fits, (below, (h, (runs, tt)))));
           none_first = λ end h. rw (weight-at end h) (none-exactly end h 0 refl);
           none-second = λ end h. rw (hops-at end h) (none-exactly end h 1 refl);
           start-entry = entry-at start below ∙ entry-start (graph b) F start well.few-vertices bounded.few bounded.short bounded.long below;
@@ -128,11 +129,11 @@ module _ (s : List ℕ) (b : Book) (read : reading s ≡ accepted b) (paths : Li
         subst₂ (EveryEnd s b paths count start table) (sym answer) (sym numbers) filled
 
 -- Under the known runs that binding gives.
-pub batch-ends : (s : List ℕ) (b : Book) → reading s ≡ accepted b → (flags : ℕ) (area : List ℕ) → area_size ≤ length area → (n : ℕ) → bound_as (binding s flags area) ≡ Ok n
+pub batch-ends : (s : List ℕ) (b : Book) → reading s ≡ accepted b → (batch : Batch) (area : List ℕ) → area_size ≤ length area → (n : ℕ) → bound_as (binding s batch area) ≡ Ok n
     → (start : ℕ) → start < b.count → (table : List ℕ) → 2 * b.count ≤ length table
-    → (r : Result ℕ Refusal) (new : List ℕ) → Reaching (reading s) (area_after (binding s flags area) area) n start table r new
-    → EveryEnd s b (area_after (binding s flags area) area) n start table r new
-batch-ends s b read flags area fits n answer start below table room =
-    let (long, runs) = binds-valid s b read flags area fits in
-    every_end s b read (area_after (binding s flags area) area) n start long
-    (subst (Valid b.count (area_after (binding s flags area) area)) (sym (count-is s b read flags area fits n answer)) runs) below table room
+    → (r : Result ℕ Refusal) (new : List ℕ) → Reaching (reading s) (area_after (binding s batch area) area) n start table r new
+    → EveryEnd s b (area_after (binding s batch area) area) n start table r new
+batch-ends s b read batch area fits n answer start below table room =
+    let (long, runs) = binds-valid s b read batch area fits (dated s batch area n answer) in
+    every_end s b read (area_after (binding s batch area) area) n start long
+    (subst (Valid b.count (area_after (binding s batch area) area)) (sym (count-is s b read batch area fits n answer)) runs) below table room

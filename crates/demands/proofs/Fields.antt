@@ -6,6 +6,7 @@ use Rattle.std.proofs.Math.Path.{refl, ap}
 use Rattle.std.proofs.Common.{sym, ap₂, subst, ◌∙◌, true≢false, inl, inr, arith, lt-ltb, ltb-true, eqb-true, eq-eqb, ne_eqb}
 use Rattle.std.proofs.Math.Bool.{true, false, cond}
 use Rattle.std.proofs.lemmas.Bool.{false≢true, not-true}
+use Rattle.std.proofs.lemmas.Bool.Decides.{Decides-or}
 use mathlib.Core.List.{List, [], ◌∷◌, Memᴰ}
 use Rattle.std.proofs.Math.Option.{Option, none, some}
 use Rattle.std.proofs.Math.Dec.{ltb}
@@ -18,13 +19,14 @@ use Rattle.book.specs.declared.Refusal.{Refusal}
 use Rattle.book.specs.Refusal.{numbered, first_failure}
 use Rattle.book.specs.Book.{Book, IsArc, blank, all_paths, given, proper_arc}
 use Rattle.book.proofs.BookLaws.{is-arc, arc-passes, vertices-below, below-vertices, given_cons, not-zero}
-use Rattle.book.specs.Reading.{accepted, refused, reading, and_then, outcome, fields, field, extended, kind_at, length_at, end_at, count_at, arc_at, path_at, follows, fits, proper, fresh, room, add_arc, arc_tests}
+use Rattle.book.specs.Reading.{accepted, refused, reading, and_then, outcome, fields, field, extended, kind_at, length_at, end_at, count_at, arc_at, window_at, path_at, follows, fits, proper, seasonal, fresh, room, add_arc, arc_tests}
+use Rattle.book_bytes.proofs.Adding.{edges-are}
 use Rattle.rules.proofs.Sets.{refuted}
 use Rattle.book.specs.declared.Arc.{Arc as Item}
 use Rattle.listed.specs.Listing.{arc_of, counting, items, listing}
 use Rattle.demands.specs.Conditions.{HasNumber, Decides}
 use Rattle.demands.proofs.Conditions.{one-refusal, first-none, first_some, le_iff, lt_iff, eq_iff, and-iff, zero_one}
-use Rattle.demands.specs.Fields.{Follows, Fits, Proper, New, Fresh, HasRoom, field_conditions, BadField, bad_field, good-field, BadBook, count_conditions, item_conditions, BadItem, bad_item, good_item, with_count, BadList, field_tests}
+use Rattle.demands.specs.Fields.{Follows, Fits, Proper, Seasonal, New, Fresh, HasRoom, field_conditions, BadField, bad_field, good-field, BadBook, count_conditions, item_conditions, BadItem, bad_item, good_item, with_count, BadList, field_tests}
 
 -- ---- each test
 nothing-asked : (true ≡ true) ↔ Unit {0}
@@ -49,7 +51,7 @@ follows-iff None b = never
 fits_iff : (k : Prelude.Option Kind) (n : ℕ) → (fits k n ≡ true) ↔ Fits k n
 fits_iff (Some VertexCount) n = eq_iff n 1
 fits_iff (Some Kind.Arc) n = eq_iff n 6
-fits_iff (Some Kind.RuleSet) n = eq_iff n 2
+fits_iff (Some Kind.RuleSet) n = Decides-or (eqb n 2) (eqb n 6) (eq_iff n 2) (eq_iff n 6)
 fits_iff (Some Path) n = and-iff (leb 2 n) (leb n longest_path) (le_iff 2 n) (le_iff n longest_path)
 fits_iff None n = never
 
@@ -62,6 +64,13 @@ proper-iff (Some Kind.Arc) s b at = arc-iff b.count (arc_at s at)
 proper-iff (Some Kind.RuleSet) s b at = nothing-asked
 proper-iff (Some Path) s b at = (vertices-below b.count (path_at s at), below-vertices b.count (path_at s at))
 proper-iff None s b at = nothing-asked
+
+seasonal-iff : (k : Prelude.Option Kind) (s : List ℕ) (at : ℕ) → (seasonal k s at ≡ true) ↔ Seasonal k s at
+seasonal-iff (Some VertexCount) s at = nothing-asked
+seasonal-iff (Some Kind.Arc) s at = nothing-asked
+seasonal-iff (Some Kind.RuleSet) s at = edges-are (window_at s at)
+seasonal-iff (Some Path) s at = nothing-asked
+seasonal-iff None s at = nothing-asked
 
 new-iff : (arcs : List Arc) (a : Arc) → (given arcs a.tail a.head ≡ false) ↔ New arcs a
 new-iff arcs a = (λ e before m. to m e, from arcs)
@@ -109,7 +118,11 @@ field-decides s b at =
           λ _. (
             le_iff (end_at s at) (length s),
             (refl, refl),
-            λ _. (proper-iff k s b at, (refl, refl), λ _. (fresh-iff k s b at, (refl, refl), λ _. (room-iff k b, (refl, refl), λ _. tt))),
+            λ _. (
+              proper-iff k s b at,
+              (refl, refl),
+              λ _. (seasonal-iff k s at, (refl, refl), λ _. (fresh-iff k s b at, (refl, refl), λ _. (room-iff k b, (refl, refl), λ _. tt))),
+            ),
           ),
         ),
       ),

@@ -26,21 +26,21 @@ use Rattle.demands.proofs.CallLaws.{how_many_once, many_of_either, many_labs_onl
 use Rattle.demands.specs.Demands.{AsRuled, LabOutcome, ReplayOutcome}
 
 module _ (β : AcceptedBegin) where
-  open β use {bytes as s, book as b, read, flags, start, end, paths, walk, rec, answered}
+  open β use {bytes as s, book as b, read, batch, start, end, paths, walk, rec, answered}
 
   well : WellFormed b
   well = (reading-is-book s b read).well_formed
 
-  allowed : begin_refusal (graph b) start end paths walk ≡ none
-  allowed = begin_ok s b read flags start end paths walk rec answered
+  allowed : begin_refusal batch (graph b) start end paths walk ≡ none
+  allowed = begin_ok s b read batch start end paths walk rec answered
 
   -- the trials of the theory
   abbrev t : Begin
-  t = opened s b read flags start end paths walk allowed
+  t = opened s b read batch start end paths walk allowed
 
   opening-is : opening β ≡ leaves_of (begun t)
   opening-is =
-      let left = begin_leaves s b read flags start end paths walk allowed in
+      let left = begin_leaves s b read batch start end paths walk allowed in
       ap₂ (λ (m : Leaves (Result Record Refusal)) r. answering r m.paths m.walk) left (recorded (sym answered ∙ ap (λ (m : Leaves (Result Record Refusal)). m.answer) left))
     where
       recorded : {p q : Record} → ◌≡◌ {A = Result Record Refusal} (Ok p) (Ok q) → p ≡ q
@@ -55,10 +55,10 @@ module _ (β : AcceptedBegin) where
       let v = c.valid in
       let σ = state_after t ρs in
       let leave : (τs : List Report) → leaves_of (state_after t τs) ≡ reports_on s (opening β) τs =
-      λ τs. sym (ap (λ l. reports_on s l τs) opening-is ∙ reports_leave s b read flags start end paths walk allowed τs) in
+      λ τs. sym (ap (λ l. reports_on s l τs) opening-is ∙ reports_leave s b read batch start end paths walk allowed τs) in
       record {
         left = leave ρs;
-        answered = sym (ap (λ l. accepted_on s l ρs) opening-is ∙ accepted_are s b read flags start end paths walk allowed (begun t) in_order ρs);
+        answered = sym (ap (λ l. accepted_on s l ρs) opening-is ∙ accepted_are s b read batch start end paths walk allowed (begun t) in_order ρs);
         planner = chosen-planner b well;
         ruled = refl;
         accepted-ruled = refl;
@@ -91,12 +91,12 @@ module _ (β : AcceptedBegin) where
       let h = ruled-here ρs in
       subst₂ (AsRuled β ρs) h.answered h.left h
 
-  module _ (R : List (List ℕ)) (set : LabSet b flags R) where
+  module _ (R : List (List ℕ)) (set : LabSet b batch R) where
     oracle-set : OracleSet t R
     oracle-set =
         record {
           taken = λ r m. true→T _ (IsPath→is_path b.count r (set.paths r m));
-          few = omega (arith, set.few, how_many_once set.counted (many_of_either b well flags R));
+          few = omega (arith, set.few, how_many_once set.counted (many_of_either b well batch R));
         }
 
     pub labs : (ρs : List Report) → TrueLab R s (opening β) ρs → LabOutcome β R ρs (accepted_on s (opening β) ρs) (reports_on s (opening β) ρs)
@@ -108,15 +108,15 @@ module _ (β : AcceptedBegin) where
         here : LabOutcome β R ρs (accepted_of t ρs) (leaves_of (state_after t ρs))
         here =
             let σ = state_after t ρs in
-            let true-reports = true_lab s b read flags start end paths walk allowed R (begun t) in_order ρs (subst (λ l. TrueLab R s l ρs) opening-is honest) in
+            let true-reports = true_lab s b read batch start end paths walk allowed R (begun t) in_order ρs (subst (λ l. TrueLab R s l ρs) opening-is honest) in
             let o = oracle t R oracle-set ρs true-reports in
             record {
               rules = rules;
               failed-counted = rules.failed-is;
               passed_counted = rules.passed_is;
               trials-counted = rules.trials_are;
-              lacked = length (lacking (known flags b.sets) R);
-              lacked_are = many_labs_only b well flags R;
+              lacked = length (lacking (known batch b.sets) R);
+              lacked_are = many_labs_only b well batch R;
               failed-bounded = o.failed-bounded;
               trials-bounded = o.trials-bounded;
               true-accepted =
@@ -131,13 +131,13 @@ module _ (β : AcceptedBegin) where
             }
 
     pub replay-labs : (reports : List ℕ) → TrueLab R s (opening β) (reports_of reports) → (a : Result Record Refusal) (paths' walk' : List ℕ)
-        → answering a paths' walk' ≡ replaying s flags start end reports paths walk
+        → answering a paths' walk' ≡ replaying s batch start end reports paths walk
         → (r : Record) × (a ≡ Ok r) × ReplayOutcome β R reports r paths' walk'
     replay-labs reports honest a paths' walk' e =
         let o = labs (reports_of reports) honest in
         let l = reports_on s (opening β) (reports_of reports) in
         let same : answering a paths' walk' ≡ begun_with l =
-        e ∙ replay_leaves s b read flags start end paths walk allowed reports ∙ sym (ap begun_with o.rules.ruled) in
+        e ∙ replay_leaves s b read batch start end paths walk allowed reports ∙ sym (ap begun_with o.rules.ruled) in
         let is : a ≡ Ok l.answer = ap (λ (m : Leaves (Result Record Refusal)). m.answer) same in
         let made : answering l.answer paths' walk' ≡ l = ap (λ (m : Leaves (Result Record Refusal)). answering l.answer m.paths m.walk) same in (
           l.answer,

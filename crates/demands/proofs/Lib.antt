@@ -6,6 +6,7 @@ pub mod PassLaws
 pub mod PlanLaws
 pub mod RefusalLaws
 pub mod SamePlans
+pub mod SeasonLaws
 pub mod SheetOrder
 pub mod StutterLaws
 pub mod Theorems

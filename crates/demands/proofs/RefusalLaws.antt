@@ -13,6 +13,7 @@ use Rattle.book.specs.Reading.{Reading, accepted, refused, reading, read_as, ref
 use Rattle.rules.specs.Area.{spelled}
 use Rattle.rules.specs.Binding.{known}
 use Rattle.rules.specs.Operations.{bound_unless, bind_tests, bound_as, binding, area_after}
+use Rattle.rules.specs.declared.Batch.{Batch}
 use Rattle.walk_check.specs.declared.Occurrence.{Occurrence}
 use Rattle.walk_check.specs.Checking.{named_at, answer_at, check_from, checked_unless, occurrence, check_tests}
 use Rattle.planner.specs.Planning.{plan_tests, Planned, PlanningOf, Answer as Outcome}
@@ -105,7 +106,7 @@ refusals s x =
       read = read-iff (reading s) x;
       read-cause = bad_book s x;
       list_cause = λ n xs. bad_list n xs x;
-      bind = λ flags area. exactly ((conditions (reading s)).bind area) (tells-bind flags area).defined;
+      bind = λ batch area. exactly ((conditions (reading s)).bind batch area) (tells-bind batch area).defined;
       check = λ area count w.
           exactly ((conditions (reading s)).check area count w) (check-iff (refusal_of (reading s) (check_tests area count w)) (occurrence (spelled count area) w) x);
       plan = λ paths count start end old r new p.
@@ -113,35 +114,35 @@ refusals s x =
       plan_list = λ n xs paths count start end old r new p.
           exactly ((conditions (listing n xs)).plan paths count start end old) (tells-plan (listing n xs) paths count start end old r new p).defined;
       reach = λ paths count start table. exactly ((conditions (reading s)).reach paths count start table) (tells-reach paths count start table).defined;
-      begin = λ flags start end paths walk.
-          exactly ((conditions (reading s)).begin start end paths walk) (begin-tells (refusal_of (reading s) (tests_of_begin start end paths walk)) (first flags start end paths walk) paths walk x).defined;
-      replay = λ flags start end reports paths walk.
-          exactly ((conditions (reading s)).begin start end paths walk)
-          (begin-tells (refusal_of (reading s) (tests_of_begin start end paths walk)) (last flags start end reports paths walk) paths walk x).defined;
+      begin = λ batch start end paths walk.
+          exactly ((conditions (reading s)).begin batch start end paths walk) (begin-tells (refusal_of (reading s) (tests_of_begin batch start end paths walk)) (first batch start end paths walk) paths walk x).defined;
+      replay = λ batch start end reports paths walk.
+          exactly ((conditions (reading s)).begin batch start end paths walk)
+          (begin-tells (refusal_of (reading s) (tests_of_begin batch start end paths walk)) (last batch start end reports paths walk) paths walk x).defined;
       report = λ q paths walk ρ. exactly ((conditions (reading s)).report q paths walk ρ) (tells-report q paths walk ρ).defined;
-      bind-keeps = λ flags area. (tells-bind flags area).keeps;
+      bind-keeps = λ batch area. (tells-bind batch area).keeps;
       plan-keeps = λ paths count start end old r new p. (tells-plan (reading s) paths count start end old r new p).keeps;
       plan_list_keeps = λ n xs paths count start end old r new p. (tells-plan (listing n xs) paths count start end old r new p).keeps;
       reach-keeps = λ paths count start table. (tells-reach paths count start table).keeps;
-      begin-keeps = λ flags start end paths walk.
-          (begin-tells (refusal_of (reading s) (tests_of_begin start end paths walk)) (first flags start end paths walk) paths walk x).keeps;
-      replay-keeps = λ flags start end reports paths walk.
-          (begin-tells (refusal_of (reading s) (tests_of_begin start end paths walk)) (last flags start end reports paths walk) paths walk x).keeps;
+      begin-keeps = λ batch start end paths walk.
+          (begin-tells (refusal_of (reading s) (tests_of_begin batch start end paths walk)) (first batch start end paths walk) paths walk x).keeps;
+      replay-keeps = λ batch start end reports paths walk.
+          (begin-tells (refusal_of (reading s) (tests_of_begin batch start end paths walk)) (last batch start end reports paths walk) paths walk x).keeps;
       report-keeps = λ q paths walk ρ. (tells-report q paths walk ρ).keeps;
     }
   where
     g : Graph
     g = graph (book_in (reading s))
 
-    first : (flags start end : ℕ) (paths walk : List ℕ) → State
-    first flags start end paths walk = first_state (book_in (reading s)) flags start end paths walk
+    first : (batch : Batch) (start end : ℕ) (paths walk : List ℕ) → State
+    first batch start end paths walk = first_state (book_in (reading s)) batch start end paths walk
 
-    last : (flags start end : ℕ) (reports paths walk : List ℕ) → State
-    last flags start end reports paths walk = run g (chosen g) (first flags start end paths walk) (reports_of reports)
+    last : (batch : Batch) (start end : ℕ) (reports paths walk : List ℕ) → State
+    last batch start end reports paths walk = run g (chosen g) (first batch start end paths walk) (reports_of reports)
 
-    tells-bind : (flags : ℕ) (area : List ℕ)
-        → Tells (refusal_of (reading s) (bind_tests area)) x (bound_as (binding s flags area) ≡ Err x) (area_after (binding s flags area) area ≡ area)
-    tells-bind flags area = bind-tells (refusal_of (reading s) (bind_tests area)) (known flags (book_in (reading s)).sets) area x
+    tells-bind : (batch : Batch) (area : List ℕ)
+        → Tells (refusal_of (reading s) (bind_tests batch area)) x (bound_as (binding s batch area) ≡ Err x) (area_after (binding s batch area) area ≡ area)
+    tells-bind batch area = bind-tells (refusal_of (reading s) (bind_tests batch area)) (known batch (book_in (reading s)).sets) area x
 
     tells-plan : (y : Reading) (paths : List ℕ) (count start end : ℕ) (old : List ℕ) (r : Outcome) (new : List ℕ) → PlanningOf y paths count start end old r new
         → Tells (refusal_of y (plan_tests paths count start end old)) x (r ≡ Err x) (new ≡ old)

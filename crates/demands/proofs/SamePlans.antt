@@ -18,6 +18,7 @@ use Rattle.rules.specs.Binding.{known}
 use Rattle.rules.specs.Area.{spelled, valid}
 use Rattle.rules.specs.Operations.{bound_as, binding, area_after}
 use Rattle.rules.proofs.Laws.{bind-accepted}
+use Rattle.rules.specs.declared.Batch.{Batch}
 use Rattle.walk_check.proofs.Laws.{sizes}
 use Rattle.planner.specs.Planning.{Planning}
 use Rattle.planner.specs.RuleSets.{SameWalks}
@@ -27,7 +28,7 @@ use Rattle.reach.specs.Reaching.{reach_tests, answer_by, table_by, reached, tabl
 use Rattle.trial_rules.specs.Trials.{ForbiddenSet}
 use Rattle.trial_rules.proofs.Tests.{set-paths}
 use Rattle.trials.specs.Replanning.{known-set}
-use Rattle.demands.proofs.AnswerLaws.{binds}
+use Rattle.demands.proofs.AnswerLaws.{dated, binds}
 use Rattle.demands.proofs.PlanLaws.{count-is}
 use Rattle.demands.specs.Demands.{SamePlans}
 
@@ -57,17 +58,17 @@ tables-same g F G s old same (some x) = refl
 abbrev left-refusal : ℕ → List ℕ → ℕ → Option Refusal
 left-refusal start table count = refusal_by (test 8 (leb (2 * count) (length table)) ∷ test 7 (ltb start count) ∷ [])
 
-module _ (s : List ℕ) (b : Book) (read : reading s ≡ accepted b) (flags : ℕ) (area : List ℕ) (fits : area_size ≤ length area) (n : ℕ)
-    (is : bound_as (binding s flags area) ≡ Ok n) (start : ℕ) (table : List ℕ) where
+module _ (s : List ℕ) (b : Book) (read : reading s ≡ accepted b) (batch : Batch) (area : List ℕ) (fits : area_size ≤ length area) (n : ℕ)
+    (is : bound_as (binding s batch area) ≡ Ok n) (start : ℕ) (table : List ℕ) where
   abbrev after : List ℕ
-  after = area_after (binding s flags area) area
+  after = area_after (binding s batch area) area
 
   reach-known : (reached (reading s) after n start table ≡ answer_by (left-refusal start table b.count) (graph b))
-      × (table_after (reading s) after n start table ≡ table_by (left-refusal start table b.count) (graph b) (known flags b.sets) start table)
+      × (table_after (reading s) after n start table ≡ table_by (left-refusal start table b.count) (graph b) (known batch b.sets) start table)
   reach-known =
-      let F = known flags b.sets in
-      let f = bind-accepted s flags area F (binds s b read flags area fits) in
-      let n-is : n ≡ length F = count-is s b read flags area fits n is in
+      let F = known batch b.sets in
+      let f = bind-accepted s batch area F (binds s b read batch area fits (dated s batch area n is)) in
+      let n-is : n ≡ length F = count-is s b read batch area fits n is in
       let runs : valid b.count after n ≡ true =
       ap (valid b.count after) n-is ∙ subst (λ (x : Book). valid x.count after (length F) ≡ true) (ap book_in (sym f.read ∙ read)) f.validity in
       let refusal : refusal_by (reach_tests after n start table b) ≡ left-refusal start table b.count = rw (le-leb area_size (length after) f.long, runs) refl in (
@@ -84,42 +85,42 @@ module _ (s s' : List ℕ) (b c : Book) (read : reading s ≡ accepted b) (read'
   same_graph = ap₂ from_arcs o.same.counts o.same.arcs
 
   -- the known paths of c, as those of a book on b's graph
-  pub other-set : (flags : ℕ) → ForbiddenSet b.count (known flags c.sets)
-  other-set flags = subst (λ n. ForbiddenSet n (known flags c.sets)) o.same.counts (known-set flags c (reading-is-book s' c read').well_formed)
+  pub other-set : (batch : Batch) → ForbiddenSet b.count (known batch c.sets)
+  other-set batch = subst (λ n. ForbiddenSet n (known batch c.sets)) o.same.counts (known-set batch c (reading-is-book s' c read').well_formed)
 
-  plans : (flags : ℕ) (area area' : List ℕ) → area_size ≤ length area → area_size ≤ length area'
-      → (n n' : ℕ) → bound_as (binding s flags area) ≡ Ok n → bound_as (binding s' flags area') ≡ Ok n'
+  plans : (batch : Batch) (area area' : List ℕ) → area_size ≤ length area → area_size ≤ length area'
+      → (n n' : ℕ) → bound_as (binding s batch area) ≡ Ok n → bound_as (binding s' batch area') ≡ Ok n'
       → (start end : ℕ) (old : List ℕ) (r r' : Outcome) (new new' : List ℕ)
-      → Planning s (area_after (binding s flags area) area) n start end old r new
-      → Planning s' (area_after (binding s' flags area') area') n' start end old r' new'
+      → Planning s (area_after (binding s batch area) area) n start end old r new
+      → Planning s' (area_after (binding s' batch area') area') n' start end old r' new'
       → (r ≡ r') × (new ≡ new')
-  plans flags area area' fits fits' n n' is is' start end old r r' new new' p p' =
-      equal-plans flags start end old s s' b c read read' o area area' (known flags b.sets) (known flags c.sets)
-      (binds s b read flags area fits) (binds s' c read' flags area' fits') r r' new new'
-      (subst (λ m. Planning s (area_after (binding s flags area) area) m start end old r new) (count-is s b read flags area fits n is) p)
-      (subst (λ m. Planning s' (area_after (binding s' flags area') area') m start end old r' new') (count-is s' c read' flags area' fits' n' is') p')
+  plans batch area area' fits fits' n n' is is' start end old r r' new new' p p' =
+      equal-plans batch start end old s s' b c read read' o area area' (known batch b.sets) (known batch c.sets)
+      (binds s b read batch area fits (dated s batch area n is)) (binds s' c read' batch area' fits' (dated s' batch area' n' is')) r r' new new'
+      (subst (λ m. Planning s (area_after (binding s batch area) area) m start end old r new) (count-is s b read batch area fits n is) p)
+      (subst (λ m. Planning s' (area_after (binding s' batch area') area') m start end old r' new') (count-is s' c read' batch area' fits' n' is') p')
 
-  pub same_choice : (flags start end : ℕ) → chosen (graph b) (known flags b.sets) start end ≡ chosen (graph b) (known flags c.sets) start end
-  same_choice flags start end =
-      let F = known flags b.sets in
-      let G = known flags c.sets in
+  pub same_choice : (batch : Batch) (start end : ℕ) → chosen (graph b) (known batch b.sets) start end ≡ chosen (graph b) (known batch c.sets) start end
+  same_choice batch start end =
+      let F = known batch b.sets in
+      let G = known batch c.sets in
       let g = graph b in
-      one_choice g F G (o.to flags) (o.from flags) start end (chosen g F start end) (chosen g G start end)
-      (decides g F well.few-vertices (known-set flags b well) start end) (decides g G well.few-vertices (other-set flags) start end)
+      one_choice g F G (o.to batch) (o.from batch) start end (chosen g F start end) (chosen g G start end)
+      (decides g F well.few-vertices (known-set batch b well) start end) (decides g G well.few-vertices (other-set batch) start end)
 
-  tables : (flags : ℕ) (area area' : List ℕ) → area_size ≤ length area → area_size ≤ length area'
-      → (n n' : ℕ) → bound_as (binding s flags area) ≡ Ok n → bound_as (binding s' flags area') ≡ Ok n'
+  tables : (batch : Batch) (area area' : List ℕ) → area_size ≤ length area → area_size ≤ length area'
+      → (n n' : ℕ) → bound_as (binding s batch area) ≡ Ok n → bound_as (binding s' batch area') ≡ Ok n'
       → (start : ℕ) (table : List ℕ)
-      → (reached (reading s) (area_after (binding s flags area) area) n start table ≡ reached (reading s') (area_after (binding s' flags area') area') n' start table)
-      × (table_after (reading s) (area_after (binding s flags area) area) n start table ≡ table_after (reading s') (area_after (binding s' flags area') area') n' start table)
-  tables flags area area' fits fits' n n' is is' start table =
-      let F = known flags b.sets in
-      let G = known flags c.sets in
-      let (answer, numbers) = reach-known s b read flags area fits n is start table in
-      let (answer', numbers') = reach-known s' c read' flags area' fits' n' is' start table in (
+      → (reached (reading s) (area_after (binding s batch area) area) n start table ≡ reached (reading s') (area_after (binding s' batch area') area') n' start table)
+      × (table_after (reading s) (area_after (binding s batch area) area) n start table ≡ table_after (reading s') (area_after (binding s' batch area') area') n' start table)
+  tables batch area area' fits fits' n n' is is' start table =
+      let F = known batch b.sets in
+      let G = known batch c.sets in
+      let (answer, numbers) = reach-known s b read batch area fits n is start table in
+      let (answer', numbers') = reach-known s' c read' batch area' fits' n' is' start table in (
         answer ∙ sym (answer' ∙ ap₂ (λ k h. answer_by (left-refusal start table k) h) o.same.counts same_graph),
         numbers
-            ∙ tables-same (graph b) F G start table (same_choice flags start) (left-refusal start table b.count)
+            ∙ tables-same (graph b) F G start table (same_choice batch start) (left-refusal start table b.count)
             ∙ sym (numbers' ∙ ap₂ (λ k h. table_by (left-refusal start table k) h G start table) o.same.counts same_graph),
       )
 

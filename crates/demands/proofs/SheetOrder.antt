@@ -1,6 +1,6 @@
 -- Demand 2, proved: two books that differ only in the order of their sheets have equal plans, counts of known runs, tables of ends, and trials.
-use Rattle.std.specs.Prelude.{ℕ, ◌≤◌, ◌≡◌, refl, List, ◌++◌, length, drop, Result, Ok}
-use Rattle.std.proofs.Common.{sym, ap, ap₂, subst₂, ◌∙◌, arith, drop_at}
+use Rattle.std.specs.Prelude.{ℕ, ◌≤◌, ◌≡◌, refl, List, [], ◌∷◌, ◌++◌, length, drop, Result, Ok}
+use Rattle.std.proofs.Common.{sym, ap, ap₂, subst₂, ◌∙◌, arith, le-leb, drop_at}
 use Rattle.std.proofs.Math.Option.{Option, none, some}
 use Rattle.limits.specs.Limits.{area_size}
 use Rattle.lists.specs.Distinct.{distinct-length}
@@ -8,15 +8,16 @@ use Rattle.walks.specs.Graph.{Graph}
 use Rattle.walks.specs.Avoid.{◌⊆◌}
 use Rattle.states.specs.Chosen.{chosen}
 use Rattle.book.specs.declared.Refusal.{Refusal}
-use Rattle.book.specs.Refusal.{refusal_by}
+use Rattle.book.specs.Refusal.{test, refusal_by}
 use Rattle.book.specs.Book.{Book, WellFormed, graph}
 use Rattle.book.proofs.BookLaws.{reading-is-book}
 use Rattle.book.specs.Reading.{accepted, reading}
 use Rattle.rules.specs.Binding.{known}
 use Rattle.rules.specs.Area.{written, spelled}
-use Rattle.rules.specs.Operations.{bound_as, binding}
+use Rattle.rules.specs.Operations.{bound_unless, date_test, bind_tests, bound_as, binding_of, binding}
 use Rattle.rules.proofs.Laws.{same_set}
 use Rattle.rules.proofs.ValidLaws.{written-length, written-spells}
+use Rattle.rules.specs.declared.Batch.{Batch}
 use Rattle.planner.specs.RuleSets.{Reordered, SameWalks, reordered_walks}
 use Rattle.trial_record.specs.declared.Record.{Record}
 use Rattle.trial_rules.specs.Trials.{ForbiddenSet, stage_of, litres_of, length_of, overlaid, begin_tests, begin}
@@ -24,7 +25,6 @@ use Rattle.trial_rules.proofs.Tests.{set-paths, set-once}
 use Rattle.trials.specs.Operations.{Leaves, begun_as, beginning_of, beginning}
 use Rattle.trials.specs.Replanning.{known-set}
 use Rattle.demands.proofs.Conditions.{zero_one}
-use Rattle.demands.proofs.AnswerLaws.{binds}
 use Rattle.demands.specs.Demands.{SameTrials, SameAnswers}
 use Rattle.demands.proofs.SamePlans.{other-set, same_graph, same_choice, same-plans}
 
@@ -75,26 +75,36 @@ same-answers s s' b c read read' o = record { counts = counts; planning = same-p
     walks : SameWalks b c
     walks = reordered_walks b c o
 
-    G-set : (flags : ℕ) → ForbiddenSet b.count (known flags c.sets)
+    G-set : (batch : Batch) → ForbiddenSet b.count (known batch c.sets)
     G-set = other-set s s' b c read read' walks
 
-    size : (flags : ℕ) → length (known flags b.sets) ≡ length (known flags c.sets)
-    size flags =
-        let (more, less) = same_set flags b c o.sets in
-        same_size more less (known-set flags b well) (G-set flags)
+    size : (batch : Batch) → length (known batch b.sets) ≡ length (known batch c.sets)
+    size batch =
+        let (more, less) = same_set batch b c o.sets in
+        same_size more less (known-set batch b well) (G-set batch)
 
-    counts : (flags : ℕ) (area area' : List ℕ) → area_size ≤ length area → area_size ≤ length area' → bound_as (binding s flags area) ≡ bound_as (binding s' flags area')
-    counts flags area area' fits fits' =
-        ap bound_as (binds s b read flags area fits) ∙ ap Ok (size flags) ∙ sym (ap bound_as (binds s' c read' flags area' fits'))
+    counts : (batch : Batch) (area area' : List ℕ) → area_size ≤ length area → area_size ≤ length area' → bound_as (binding s batch area) ≡ bound_as (binding s' batch area')
+    counts batch area area' fits fits' =
+        ap (λ x. bound_as (binding_of x batch area)) read
+        ∙ same (refusal_by (bind_tests batch area b))
+        ∙ ap (λ t. bound_as (bound_unless (refusal_by (test 8 t ∷ date_test batch ∷ [])) G)) (le-leb area_size (length area) fits ∙ sym (le-leb area_size (length area') fits'))
+        ∙ sym (ap (λ x. bound_as (binding_of x batch area')) read')
+      where
+        G : List (List ℕ)
+        G = known batch c.sets
 
-    trials : (flags start end : ℕ) (paths walk : List ℕ) → SameTrials (beginning s flags start end paths walk) (beginning s' flags start end paths walk)
-    trials flags start end paths walk =
-        let F = known flags b.sets in
-        let G = known flags c.sets in
-        let (more, less) = same_set flags b c o.sets in
+        same : (o : Option Refusal) → bound_as (bound_unless o (known batch b.sets)) ≡ bound_as (bound_unless o G)
+        same none = ap Ok (size batch)
+        same (some x) = refl
+
+    trials : (batch : Batch) (start end : ℕ) (paths walk : List ℕ) → SameTrials (beginning s batch start end paths walk) (beginning s' batch start end paths walk)
+    trials batch start end paths walk =
+        let F = known batch b.sets in
+        let G = known batch c.sets in
+        let (more, less) = same_set batch b c o.sets in
         let g = graph b in
-        let F-set = known-set flags b well in
-        let begins : (h : Graph) → List (List ℕ) → Leaves (Result Record Refusal) = λ h H. begun_as (refusal_by (begin_tests h start end paths walk)) (begin h (chosen h) H start end paths walk) paths walk in
-        let left : beginning s flags start end paths walk ≡ begins g F = ap (λ x. beginning_of x flags start end paths walk) read in
-        let right : beginning s' flags start end paths walk ≡ begins g G = ap (λ x. beginning_of x flags start end paths walk) read' ∙ ap (λ h. begins h G) (same_graph s s' b c read read' walks) in
-        subst₂ SameTrials (sym left) (sym right) (same-begun g F G more less F-set (G-set flags) start end (same_choice s s' b c read read' walks flags start end) paths walk (refusal_by (begin_tests g start end paths walk)))
+        let F-set = known-set batch b well in
+        let begins : (h : Graph) → List (List ℕ) → Leaves (Result Record Refusal) = λ h H. begun_as (refusal_by (begin_tests batch h start end paths walk)) (begin h (chosen h) H start end paths walk) paths walk in
+        let left : beginning s batch start end paths walk ≡ begins g F = ap (λ x. beginning_of x batch start end paths walk) read in
+        let right : beginning s' batch start end paths walk ≡ begins g G = ap (λ x. beginning_of x batch start end paths walk) read' ∙ ap (λ h. begins h G) (same_graph s s' b c read read' walks) in
+        subst₂ SameTrials (sym left) (sym right) (same-begun g F G more less F-set (G-set batch) start end (same_choice s s' b c read read' walks batch start end) paths walk (refusal_by (begin_tests batch g start end paths walk)))

@@ -20,7 +20,7 @@ use Rattle.book.specs.Refusal.{number_of}
 use Rattle.book.specs.Book.{Book, RuleSet, All, IsArc, IsPath, all_paths, given, graph}
 use Rattle.book.proofs.BookLaws.{reading-is-book, given_cons, all_map, all_left, all_right}
 use Rattle.book.specs.Reading.{accepted, reading, book_in}
-use Rattle.book_bytes.specs.Bytes.{Keeps, bytes_of}
+use Rattle.book_bytes.specs.Bytes.{ProperNeeds, Keeps, bytes_of}
 use Rattle.book_bytes.proofs.RoundTrip.{every_book_read}
 use Rattle.rules.specs.Binding.{known}
 use Rattle.rules.specs.Area.{spelled, written}
@@ -28,6 +28,7 @@ use Rattle.rules.specs.ValidLaws.{Valid}
 use Rattle.rules.proofs.ValidLaws.{valid→Valid, written-valid}
 use Rattle.rules.specs.Operations.{bound_as, binding, area_after}
 use Rattle.rules.proofs.Laws.{bind-accepted}
+use Rattle.rules.specs.declared.Batch.{Batch}
 use Rattle.planner.specs.RuleSets.{SameWalks}
 use Rattle.trial_record.specs.declared.Record.{Record}
 use Rattle.trial_rules.specs.Trials.{State, failed, step}
@@ -41,7 +42,7 @@ use Rattle.demands.proofs.Asked.{conditions}
 use Rattle.demands.specs.Calls.{HowMany}
 use Rattle.demands.specs.Demands.{IsRun, Tried, ButStutteringRuns, SamePlans}
 use Rattle.demands.proofs.RefusalLaws.{refusals}
-use Rattle.demands.proofs.AnswerLaws.{binds}
+use Rattle.demands.proofs.AnswerLaws.{dated, binds}
 use Rattle.demands.proofs.PlanLaws.{count-is}
 use Rattle.demands.proofs.SamePlans.{same-plans}
 
@@ -49,10 +50,10 @@ use Rattle.demands.proofs.SamePlans.{same-plans}
 are_paths : (count : ℕ) (F : List (List ℕ)) → All (IsRun count) F → All (IsPath count) F
 are_paths count = all_map (λ r (two, eight, below). record { two = two; eight = eight; below = below })
 
-pub in_sheets : (b : Book) → Keeps b → (sets : List RuleSet) → length sets ≤ most_sets → All (λ s. s.flags < 65536) sets → length (all_paths sets) ≤ most_paths
+pub in_sheets : (b : Book) → Keeps b → (sets : List RuleSet) → length sets ≤ most_sets → All (λ s. ProperNeeds s.needs) sets → length (all_paths sets) ≤ most_paths
     → All (IsRun b.count) (all_paths sets)
     → let c : Book = record { count = b.count; arcs = b.arcs; sets = sets } in reading (bytes_of c) ≡ accepted c
-in_sheets b keeps sets few-sets flags-fit few-paths runs =
+in_sheets b keeps sets few-sets proper few-paths runs =
     every_book_read (record { count = b.count; arcs = b.arcs; sets = sets })
     (record {
       some-vertex = keeps.some-vertex;
@@ -60,7 +61,7 @@ in_sheets b keeps sets few-sets flags-fit few-paths runs =
       arcs-proper = keeps.arcs-proper;
       pairs-once = keeps.pairs-once;
       few-sets = few-sets;
-      flags-fit = flags-fit;
+      needs-proper = proper;
       few-paths = few-paths;
       paths-proper = are_paths b.count (all_paths sets) runs;
     })
@@ -96,18 +97,18 @@ from_lab s b read q paths walk t room r two eight o =
     (b, read, (t.paths-fit, (t.walk-fits, (t.runs, (t.state, (t.stage, ((is-path, o), (room, tt)))))))) in
     (after.rec, ap (λ x. (reported_as x after q paths walk).answer) none-refused)
 
-pub bound : (s : List ℕ) (b : Book) → reading s ≡ accepted b → (flags : ℕ) (area : List ℕ) → area_size ≤ length area → (n : ℕ) → bound_as (binding s flags area) ≡ Ok n
-    → (runs : HowMany (OfSheet b flags) n) × (runs.listed ≡ spelled n (area_after (binding s flags area) area))
-bound s b read flags area fits n answer =
-    let F = known flags b.sets in
-    let n-is : n ≡ length F = count-is s b read flags area fits n answer in (
+pub bound : (s : List ℕ) (b : Book) → reading s ≡ accepted b → (batch : Batch) (area : List ℕ) → area_size ≤ length area → (n : ℕ) → bound_as (binding s batch area) ≡ Ok n
+    → (runs : HowMany (OfSheet b batch) n) × (runs.listed ≡ spelled n (area_after (binding s batch area) area))
+bound s b read batch area fits n answer =
+    let F = known batch b.sets in
+    let n-is : n ≡ length F = count-is s b read batch area fits n answer in (
       record {
         listed = F;
-        once = (known-set flags b (reading-is-book s b read).well_formed).distinct;
-        each = λ r. (known→sheet b flags, sheet→known b flags);
+        once = (known-set batch b (reading-is-book s b read).well_formed).distinct;
+        each = λ r. (known→sheet b batch, sheet→known b batch);
         number = sym n-is;
       },
-      sym (ap (λ k. spelled k (area_after (binding s flags area) area)) n-is ∙ (bind-accepted s flags area F (binds s b read flags area fits)).spells),
+      sym (ap (λ k. spelled k (area_after (binding s batch area) area)) n-is ∙ (bind-accepted s batch area F (binds s b read batch area fits (dated s batch area n answer))).spells),
     )
 
 -- ---- one that names a vertex twice in succession
@@ -152,6 +153,6 @@ plans s t b c read read' o = same-plans s t b c read read' walks
     walks =
         record {
           same = o.same;
-          to = λ flags. but_stutters (loopless s b read) (λ r m. ⊎_elim (λ k. inl (sheet→known b flags k)) inr (o.from flags r (known→sheet c flags m)));
-          from = λ flags. but_stutters (loopless s b read) (λ r m. ⊎_elim (λ k. inl (sheet→known c flags k)) inr (o.to flags r (known→sheet b flags m)));
+          to = λ batch. but_stutters (loopless s b read) (λ r m. ⊎_elim (λ k. inl (sheet→known b batch k)) inr (o.from batch r (known→sheet c batch m)));
+          from = λ batch. but_stutters (loopless s b read) (λ r m. ⊎_elim (λ k. inl (sheet→known c batch k)) inr (o.to batch r (known→sheet b batch m)));
         }

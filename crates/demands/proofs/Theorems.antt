@@ -1,4 +1,7 @@
--- The three demands hold, and what 02, orders 1 to 3, adds to them.
+-- The three demands hold, and what 02, orders 1 to 4, adds to them.
+use Rattle.dates.proofs.CalendarDays.{month-days}
+use Rattle.dates.proofs.CalendarLaws.{date-is, one_day}
+use Rattle.dates.proofs.CalendarWindows.{whole_year, one_of_two}
 use Rattle.distances.proofs.Made.{made-first, made-enough, settled-best, made-few}
 use Rattle.measuring.proofs.Few.{few-passes}
 use Rattle.measuring.proofs.Unique.{counted-unique}
@@ -6,7 +9,7 @@ use Rattle.book_bytes.proofs.BytesLaws.{bytes_below}
 use Rattle.book_bytes.proofs.Longest.{full_book, full_keeps, full_length}
 use Rattle.book_bytes.proofs.LongBook.{longest-book}
 use Rattle.book_bytes.proofs.RoundTrip.{every_book_read, round_trip, refused_otherwise, same-book}
-use Rattle.demands.specs.Demands.{Demand1, Demand2, Order1, Order2, Order3, Demand3}
+use Rattle.demands.specs.Demands.{Demand1, Demand2, Order1, Order2, Order3, Order4, Demand3}
 use Rattle.demands.proofs.AnswerLaws.{answers}
 use Rattle.demands.proofs.RefusalLaws.{refusals}
 use Rattle.demands.proofs.PlanLaws.{batch-plans}
@@ -14,6 +17,7 @@ use Rattle.demands.proofs.EndLaws.{every_end, batch-ends}
 use Rattle.demands.proofs.SheetOrder.{same-answers}
 use Rattle.demands.proofs.StutterLaws as stutters
 use Rattle.demands.proofs.PassLaws.{counted-first, settled-plans, settled-ends, few-by-plans, few-by-tables, never-over}
+use Rattle.demands.proofs.SeasonLaws as seasons
 use Rattle.demands.proofs.LabLaws.{ruled, labs, replay-labs}
 
 pub demand_1 : Demand1
@@ -70,6 +74,26 @@ order-3 =
       plans = few-by-plans;
       tables = few-by-tables;
       test = never-over;
+    }
+
+pub order-4 : Order4
+order-4 =
+    record {
+      dates = date-is;
+      months = month-days;
+      edges = seasons.edges;
+      leap_years = seasons.leap_years;
+      other-years = seasons.other-years;
+      no_date_bound = seasons.no_date_bound;
+      no_date-begun = seasons.no_date-begun;
+      both_days = seasons.both_days;
+      one_day = one_day;
+      whole_year = whole_year;
+      one_of_two = one_of_two;
+      leap_day_alone = seasons.leap_day_alone;
+      known-runs = seasons.known-runs;
+      by_hand = seasons.by_hand;
+      no_windows = seasons.no_windows;
     }
 
 pub demand_3 : Demand3

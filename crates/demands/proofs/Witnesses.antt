@@ -1,4 +1,4 @@
--- The premises of demand 3 can be met: on book A, under marks 3, from 0 to 3, for all lent areas that are long enough, by a lab whose trials end
+-- The premises of demand 3 can be met: on book A, under marks 3 on any date, from 0 to 3, for all lent areas that are long enough, by a lab whose trials end
 use Rattle.trials.specs.declared.Rejected.{Rejected}
 use Rattle.trials.specs.Operations.{rejected}
 use Rattle.std.specs.Prelude.{ℕ, ◌≤◌, refl, T, length, Result, Ok, Err}
@@ -7,6 +7,9 @@ use Rattle.std.proofs.Common.{sym, ◌∙◌, inl, inr, ⊎_elim, arith}
 use mathlib.Core.List.{List, [], ◌∷◌, Memᴰ}
 use Rattle.std.proofs.Math.Option.{none, some}
 use Rattle.limits.specs.Limits.{area_size, longest}
+use Rattle.dates.specs.declared.Date.{Date}
+use Rattle.dates.specs.Dates.{month_day}
+use Rattle.dates.specs.Calendar.{IsDate, Inside}
 use Rattle.lists.specs.Test.{T→true}
 use Rattle.walks.specs.Avoid.{Occurs}
 use Rattle.walks.proofs.Avoid.{occurs→Occurs, avoids→Avoids}
@@ -24,14 +27,16 @@ use Rattle.trial_rules.proofs.Accepted.{only-oracle}
 use Rattle.trial_rules.specs.Lacking.{lacking, together}
 use Rattle.trials.specs.Operations.{Leaves, answering, reporting, record_in}
 use Rattle.series.specs.Whole.{leaves_of, report_on, reports_on}
+use Rattle.examples.specs.Batches.{marks}
 use Rattle.examples.specs.Books.{bytes_a, book_a, book-A, bytes_stutter, book_stutter, book_stutter_lem}
 use Rattle.examples.specs.Sums.{graph_a, plan_a, well-A, begun-3, after-123, after-13, long_after, valid-3, sums}
+use Rattle.examples.specs.Seasons.{bytes-summer, book_with, summer, sums as seasons}
 use Rattle.examples.specs.Trials.{not_there, too_late}
 use Rattle.demands.specs.Calls.{AcceptedBegin, opening, answer_on, answers_on, accepted_by, accepted_on, standing_in, TrueReport, TrueLab, LabSet}
 use Rattle.demands.proofs.CallLaws.{many_of_either, refused-kept, report-is, answer-is}
-use Rattle.demands.specs.Demands.{LabOutcome, ButStutteringRuns, SamePlans}
+use Rattle.demands.specs.Demands.{LabOutcome, ButStutteringRuns, SamePlans, added, no_more, SameBatches}
 use Rattle.demands.proofs.LabLaws.{labs}
-use Rattle.demands.proofs.Theorems.{order-2}
+use Rattle.demands.proofs.Theorems.{order-2, order-4}
 
 -- The runs that are named.
 abbrev pub path-123 : List ℕ
@@ -44,27 +49,28 @@ path-13 = 1 ∷ 3 ∷ []
 abbrev pub record_3 : Record
 record_3 = record { stage = 0; start = 0; end = 3; known = 2; first = 2; failed = 0; passed = 0; litres = 450; length = 6 }
 
-abbrev pub begin-A : (paths walk : List ℕ) → area_size ≤ length paths → longest ≤ length walk → AcceptedBegin
-begin-A paths walk fits long =
+abbrev pub begin-A : (date : Date) → IsDate date → (paths walk : List ℕ) → area_size ≤ length paths → longest ≤ length walk → AcceptedBegin
+begin-A date valid paths walk fits long =
     record {
       bytes = bytes_a;
       book = book_a;
       read = book-A;
-      flags = 3;
+      batch = marks 3 date;
       start = 0;
       end = 3;
       paths = paths;
       walk = walk;
       rec = record_3;
-      answered = ap (λ (m : Leaves (Result Record Refusal)). m.answer) (sums.from_marks_3 paths walk fits long);
+      answered = ap (λ (m : Leaves (Result Record Refusal)). m.answer) (sums.from_marks_3 date valid paths walk fits long);
     }
 
 abbrev pub OnBookA : (AcceptedBegin → Type 0) → Type 0
-OnBookA P = (paths walk : List ℕ) (fits : area_size ≤ length paths) (long : longest ≤ length walk) → P (begin-A paths walk fits long)
+OnBookA P =
+    (date : Date) (valid : IsDate date) (paths walk : List ℕ) (fits : area_size ≤ length paths) (long : longest ≤ length walk) → P (begin-A date valid paths walk fits long)
 
 -- A lab is true to its set R. Of its reports ρs `done` are accepted; at the end the record is q, and w stands.
 pub record Trial (R : List (List ℕ)) (ρs done : List Report) (q : Record) (w : List ℕ) (β : AcceptedBegin) : Type 0 where
-  pub set : LabSet β.book β.flags R
+  pub set : LabSet β.book β.batch R
   pub honest : TrueLab R β.bytes (opening β) ρs
   pub answered : accepted_on β.bytes (opening β) ρs ≡ done
   pub ends : (reports_on β.bytes (opening β) ρs).answer ≡ q
@@ -133,12 +139,12 @@ goes_nowhere = record { honest = tt; answered = refl; left = refl }
 stands-123 : Occurs path-123 (0 ∷ 1 ∷ 2 ∷ 1 ∷ 2 ∷ 3 ∷ [])
 stands-123 = occurs→Occurs path-123 (0 ∷ 1 ∷ 2 ∷ 1 ∷ 2 ∷ 3 ∷ []) tt
 
-labs-set : (R : List (List ℕ)) → T (is_forbidden_set 4 R) → length (together (known 3 book_a.sets) R) ≤ 256 → LabSet book_a 3 R
-labs-set R paths few =
+labs-set : (date : Date) (R : List (List ℕ)) → T (is_forbidden_set 4 R) → length (together (known (marks 3 date) book_a.sets) R) ≤ 256 → LabSet book_a (marks 3 date) R
+labs-set date R paths few =
     record {
       paths = λ r m. is_path→IsPath 4 r (T→true _ ((is_forbidden_set→ 4 R paths).taken r m));
-      together = length (together (known 3 book_a.sets) R);
-      counted = many_of_either book_a well-A 3 R;
+      together = length (together (known (marks 3 date) book_a.sets) R);
+      counted = many_of_either book_a well-A (marks 3 date) R;
       few = few;
     }
 
@@ -183,36 +189,37 @@ module _ (paths walk : List ℕ) (fits : area_size ≤ length paths) (long : lon
       (goes_on (failed path-13) (sums.then-named-13 paths walk fits long) (mathlib.Core.List.Memᴰ.tail (mathlib.Core.List.Memᴰ.head refl), occurs→Occurs path-13 (0 ∷ 1 ∷ 3 ∷ []) tt)
       (goes_refused passed Ended σ₂.rec (answer-is bytes_a book_a book-A σ₂ valid-13 passed (some Ended) (too_late paths walk fits long)) goes_nowhere))
 
-  abbrev β : AcceptedBegin
-  β = begin-A paths walk fits long
+  module _ (date : Date) (valid : IsDate date) where
+    abbrev β : AcceptedBegin
+    β = begin-A date valid paths walk fits long
 
-  opening-is : opening β ≡ leaves_of σ₀
-  opening-is = ap (λ (m : Leaves (Result Record Refusal)). answering record_3 m.paths m.walk) (sums.from_marks_3 paths walk fits long)
+    opening-is : opening β ≡ leaves_of σ₀
+    opening-is = ap (λ (m : Leaves (Result Record Refusal)). answering record_3 m.paths m.walk) (sums.from_marks_3 date valid paths walk fits long)
 
-  trial : {R : List (List ℕ)} {ρs done : List Report} {l : Leaves Record} → LabSet book_a 3 R → Goes R bytes_a (leaves_of σ₀) ρs done l
-      → Trial R ρs done l.answer (standing_in l) β
-  trial {R} {ρs} {done} {l} set h =
-      let g : Goes R bytes_a (opening β) ρs done l = subst (λ m. Goes R bytes_a m ρs done l) (sym opening-is) h in
-      record { set = set; honest = g.honest; answered = g.answered; ends = ap (λ (m : Leaves Record). m.answer) g.left; stands = ap standing_in g.left }
+    trial : {R : List (List ℕ)} {ρs done : List Report} {l : Leaves Record} → LabSet book_a (marks 3 date) R → Goes R bytes_a (leaves_of σ₀) ρs done l
+        → Trial R ρs done l.answer (standing_in l) β
+    trial {R} {ρs} {done} {l} set h =
+        let g : Goes R bytes_a (opening β) ρs done l = subst (λ m. Goes R bytes_a m ρs done l) (sym opening-is) h in
+        record { set = set; honest = g.honest; answered = g.answered; ends = ap (λ (m : Leaves Record). m.answer) g.left; stands = ap standing_in g.left }
 
-  not-true : TrueLab (path-123 ∷ []) bytes_a (opening β) (passed ∷ []) → ⊥
-  unfolding TrueLab
-  not-true h =
-      let valid = valid-3 paths walk fits long in
-      let unrefused = only-oracle graph_a σ₀ passed (long_after paths walk fits long (0 ∷ 1 ∷ 2 ∷ 1 ∷ 2 ∷ 3 ∷ []) refl) valid in
-      (subst (λ m. TrueLab (path-123 ∷ []) bytes_a m (passed ∷ [])) opening-is h).0 (step graph_a plan_a σ₀ passed).rec
-      (answer-is bytes_a book_a book-A σ₀ valid passed none unrefused)
-      path-123
-      (mathlib.Core.List.Memᴰ.head refl)
-      stands-123
+    not-true : TrueLab (path-123 ∷ []) bytes_a (opening β) (passed ∷ []) → ⊥
+    unfolding TrueLab
+    not-true h =
+        let in_order = valid-3 paths walk fits long in
+        let unrefused = only-oracle graph_a σ₀ passed (long_after paths walk fits long (0 ∷ 1 ∷ 2 ∷ 1 ∷ 2 ∷ 3 ∷ []) refl) in_order in
+        (subst (λ m. TrueLab (path-123 ∷ []) bytes_a m (passed ∷ [])) opening-is h).0 (step graph_a plan_a σ₀ passed).rec
+        (answer-is bytes_a book_a book-A σ₀ in_order passed none unrefused)
+        path-123
+        (mathlib.Core.List.Memᴰ.head refl)
+        stands-123
 
 pub witnesses : Witnesses
 unfolding covers applied is_forbidden_set once is_path are_vertices lacking
 witnesses =
     record {
-      ends-passed = λ paths walk fits long. trial paths walk fits long (labs-set (path-123 ∷ []) tt (omega arith)) (passing paths walk fits long);
-      ends-none = λ paths walk fits long. trial paths walk fits long (labs-set (path-123 ∷ path-13 ∷ []) tt (omega arith)) (failing paths walk fits long);
-      not-true = not-true;
+      ends-passed = λ date valid paths walk fits long. trial paths walk fits long date valid (labs-set date (path-123 ∷ []) tt (omega arith)) (passing paths walk fits long);
+      ends-none = λ date valid paths walk fits long. trial paths walk fits long date valid (labs-set date (path-123 ∷ path-13 ∷ []) tt (omega arith)) (failing paths walk fits long);
+      not-true = λ date valid paths walk fits long. not-true paths walk fits long date valid;
     }
 
 -- ---- 02, order 2
@@ -223,8 +230,8 @@ but_11 : ButStutteringRuns book_a book_stutter
 but_11 =
     record {
       same = record { counts = refl; arcs = refl };
-      to = λ flags r o. inl (record { set = o.set; listed = mathlib.Core.List.Memᴰ.append_left _ o.listed; binds = o.binds; path = o.path });
-      from = λ flags r o.
+      to = λ batch r o. inl (record { set = o.set; listed = mathlib.Core.List.Memᴰ.append_left _ o.listed; binds = o.binds; path = o.path });
+      from = λ batch r o.
           ⊎_elim (λ m. inl (record { set = o.set; listed = m; binds = o.binds; path = o.path }))
           (λ m.
           let path : Memᴰ r ((1 ∷ 1 ∷ []) ∷ []) = subst (λ (set : RuleSet). Memᴰ r set.paths) (mathlib.Core.List.Memᴰ.eq_of_singleton m) o.path in
@@ -234,3 +241,11 @@ but_11 =
 
 pub plans-11 : SamePlans bytes_a bytes_stutter
 plans-11 = order-2.plans bytes_a bytes_stutter book_a book_stutter book-A book_stutter_lem but_11
+
+-- ---- 02, order 4
+-- Book A with a window on its second sheet gives on each day of the window what book A gives.
+pub in-summer : (flags : ℕ) (date date' : Date) → IsDate date → IsDate date' → Inside summer (month_day date)
+    → SameBatches bytes-summer (marks flags date) bytes_a (marks flags date')
+in-summer flags date date' valid valid' inside =
+    order-4.by_hand bytes-summer bytes_a (book_with summer) book_a seasons.read-summer book-A (record { counts = refl; arcs = refl }) (marks flags date) (marks flags date') valid valid' refl
+    (added (λ w e. absurd (cc)) (added (λ w e. subst (λ v. Inside v (month_day date)) (cc) inside) no_more))

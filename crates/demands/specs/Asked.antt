@@ -6,11 +6,13 @@ use Rattle.limits.specs.Limits.{area_size, longest, most_paths}
 use Rattle.walks.specs.Graph.{Graph}
 use Rattle.walks.specs.Walk.{Walk}
 use Rattle.walks.specs.Avoid.{Occurs}
+use Rattle.dates.specs.Calendar.{IsDate}
 use Rattle.book.specs.declared.Refusal.{Refusal}
 use Rattle.book.specs.Refusal.{Test}
 use Rattle.book.specs.Book.{Book, graph, IsPath}
 use Rattle.book.specs.Reading.{Reading, accepted, refused, refusal_of}
 use Rattle.rules.specs.ValidLaws.{Valid}
+use Rattle.rules.specs.declared.Batch.{Batch}
 use Rattle.rules.specs.Operations.{bind_tests}
 use Rattle.walk_check.specs.Checking.{check_tests}
 use Rattle.planner.specs.Planning.{plan_tests}
@@ -21,9 +23,9 @@ use Rattle.judging.specs.Judging.{state_of, report_tests}
 use Rattle.demands.specs.Conditions.{Condition, asks, AllHold, FirstFails}
 
 -- ---- the conditions
--- 8: a runs area of 2,304 bytes or more.
-abbrev pub bind_conditions : List ℕ → Book → List Condition
-bind_conditions area b = asks 8 (area_size ≤ length area) ∷ []
+-- 8: a runs area of 2,304 bytes or more. 15: a batch with a date.
+abbrev pub bind_conditions : Batch → List ℕ → Book → List Condition
+bind_conditions batch area b = asks 8 (area_size ≤ length area) ∷ asks 15 (IsDate batch.date) ∷ []
 
 -- 9: the area's 2,304 bytes hold, as entries, that many different runs that the book's rules take, at most 256, and no other byte that is not 0.
 -- 10: not over 1,600 grades, and a line-up of the book.
@@ -46,9 +48,10 @@ abbrev pub reach_conditions : List ℕ → ℕ → ℕ → List ℕ → Book →
 reach_conditions paths count start table b =
     asks 8 (area_size ≤ length paths) ∷ asks 8 (2 * b.count ≤ length table) ∷ asks 7 (start < b.count) ∷ asks 9 (Valid b.count paths count) ∷ []
 
-abbrev pub begin_conditions : ℕ → ℕ → List ℕ → List ℕ → Book → List Condition
-begin_conditions start end paths walk b =
-    asks 8 (area_size ≤ length paths) ∷ asks 8 (longest ≤ length walk) ∷ asks 7 (start < b.count) ∷ asks 7 (end < b.count) ∷ []
+-- 15 'just after 7' (02).
+abbrev pub begin_conditions : Batch → ℕ → ℕ → List ℕ → List ℕ → Book → List Condition
+begin_conditions batch start end paths walk b =
+    asks 8 (area_size ≤ length paths) ∷ asks 8 (longest ≤ length walk) ∷ asks 7 (start < b.count) ∷ asks 7 (end < b.count) ∷ asks 15 (IsDate batch.date) ∷ []
 
 -- 12: a named run is one that the book's rules take, and stands in the standing line-up. 13: there is room for one more known run.
 abbrev pub Names : Graph → State → Report → Type 0
@@ -85,9 +88,9 @@ pub record Judges (r : Reading) (tests : Book → List Test) (conditions : Book 
 
 -- Of what was read, from bytes or from a list.
 pub record Conditions (r : Reading) : Type 0 where
-  pub bind : (area : List ℕ) → Judges r (bind_tests area) (bind_conditions area)
+  pub bind : (batch : Batch) (area : List ℕ) → Judges r (bind_tests batch area) (bind_conditions batch area)
   pub check : (area : List ℕ) (count : ℕ) (w : List ℕ) → Judges r (check_tests area count w) (check_conditions area count w)
   pub plan : (paths : List ℕ) (count start end : ℕ) (walk : List ℕ) → Judges r (plan_tests paths count start end walk) (plan_conditions paths count start end walk)
   pub reach : (paths : List ℕ) (count start : ℕ) (table : List ℕ) → Judges r (reach_tests paths count start table) (reach_conditions paths count start table)
-  pub begin : (start end : ℕ) (paths walk : List ℕ) → Judges r (λ b. begin_tests (graph b) start end paths walk) (begin_conditions start end paths walk)
+  pub begin : (batch : Batch) (start end : ℕ) (paths walk : List ℕ) → Judges r (λ b. begin_tests batch (graph b) start end paths walk) (begin_conditions batch start end paths walk)
   pub report : (q : Record) (paths walk : List ℕ) (ρ : Report) → Judges r (report_tests q paths walk ρ) (report_conditions q paths walk ρ)

@@ -9,6 +9,7 @@ use Rattle.walks.specs.Best.{Feasible}
 use Rattle.limits.specs.Limits.{most_paths}
 use Rattle.book.specs.Book.{Book, IsPath, graph}
 use Rattle.book.specs.Reading.{accepted, reading}
+use Rattle.rules.specs.declared.Batch.{Batch}
 use Rattle.trial_record.specs.declared.Record.{Record}
 use Rattle.trial_rules.specs.Trials.{Report, passed, failed}
 use Rattle.trials.specs.Operations.{Leaves, answering, beginning, reporting}
@@ -16,24 +17,24 @@ use Rattle.series.specs.Whole.{report_on}
 use Rattle.demands.specs.Marks.{OfSheet, Clear}
 
 -- ---- the calls, and their answers
--- An accepted begin in a book that is read: the book's bytes, a batch with its flags, start and end, both areas as lent; and the record that
--- it answers.
+-- An accepted begin in a book that is read: the book's bytes, a batch, start and end, both areas as lent; and the record that
+-- it answers. The batch's date is a date then: else it is refused under 15.
 pub record AcceptedBegin : Type 0 where
   pub bytes : List ℕ
   pub book : Book
   pub read : reading bytes ≡ accepted book
-  pub flags : ℕ
+  pub batch : Batch
   pub start : ℕ
   pub end : ℕ
   pub paths : List ℕ
   pub walk : List ℕ
   pub rec : Record
-  pub answered : (beginning bytes flags start end paths walk).answer ≡ Ok rec
+  pub answered : (beginning bytes batch start end paths walk).answer ≡ Ok rec
 
 -- What it leaves: its record, and both areas.
 abbrev pub opening : AcceptedBegin → Leaves Record
 opening β =
-    let m = beginning β.bytes β.flags β.start β.end β.paths β.walk in
+    let m = beginning β.bytes β.batch β.start β.end β.paths β.walk in
     answering β.rec m.paths m.walk
 
 -- What a report answers that is made on record and areas as they stand.
@@ -79,21 +80,21 @@ pub record HowMany (P : List ℕ → Type 0) (n : ℕ) : Type 0 where
   pub number : length listed ≡ n
 
 -- A run of a sheet that binds the batch, or of the lab's R. A run of R that no such sheet has.
-abbrev pub OfEither : Book → ℕ → List (List ℕ) → List ℕ → Type 0
-OfEither b flags R r = OfSheet b flags r ⊎ Memᴰ r R
+abbrev pub OfEither : Book → Batch → List (List ℕ) → List ℕ → Type 0
+OfEither b batch R r = OfSheet b batch r ⊎ Memᴰ r R
 
-abbrev pub LabsOnly : Book → ℕ → List (List ℕ) → List ℕ → Type 0
-LabsOnly b flags R r = Memᴰ r R × (OfSheet b flags r → ⊥)
+abbrev pub LabsOnly : Book → Batch → List (List ℕ) → List ℕ → Type 0
+LabsOnly b batch R r = Memᴰ r R × (OfSheet b batch r → ⊥)
 
 -- What 01 asks of the lab's R: runs, all over the book's grades; with those of the binding sheets they make at most 256 different ones, one
 -- in both counted once.
-pub record LabSet (b : Book) (flags : ℕ) (R : List (List ℕ)) : Type 0 where
+pub record LabSet (b : Book) (batch : Batch) (R : List (List ℕ)) : Type 0 where
   pub paths : (r : List ℕ) → Memᴰ r R → IsPath b.count r
   pub together : ℕ
-  pub counted : HowMany (OfEither b flags R) together
+  pub counted : HowMany (OfEither b batch R) together
   pub few : together ≤ most_paths
 
 -- A walk from start to end (01: a line-up) that avoids all of R, and all runs of the sheets that bind the batch.
-pub record Free (b : Book) (flags : ℕ) (R : List (List ℕ)) (start end : ℕ) (w : List ℕ) : Type 0 where
+pub record Free (b : Book) (batch : Batch) (R : List (List ℕ)) (start end : ℕ) (w : List ℕ) : Type 0 where
   pub avoids_lab : Feasible (graph b) R start end w
-  pub avoids_sheets : Clear b flags w
+  pub avoids_sheets : Clear b batch w

@@ -1,8 +1,8 @@
 -- The three demands (docs/RULES.md), sentence by sentence: each is a record with a part for each sentence, over the definitions that the contracts of the
--- operations name; and after the second demand what requests 1 to 3 add (02). A sentence that a comment has in quotation marks is the demand's, 02's in the part of a
+-- operations name; and after the second demand what requests 1 to 4 add (02). A sentence that a comment has in quotation marks is the demand's, 02's in the part of a
 -- request, or 01's where it says so. Theorems.antt proves them.
 use Rattle.std.specs.Prelude
-use Rattle.std.specs.Prelude.{ℕ, suc, ◌≤◌, ◌<◌, ◌+◌, ◌*◌, ◌≡◌, ◌⊎◌, ◌↔◌, ◌≢◌, false, length, drop, get_or, take, Option, Some, Result, Ok, Err}
+use Rattle.std.specs.Prelude.{ℕ, Bool, suc, ◌≤◌, ◌<◌, ◌+◌, ◌*◌, ◌≡◌, ◌⊎◌, ◌↔◌, ◌≢◌, true, false, length, drop, get_or, take, Option, Some, Result, Ok, Err}
 use Rattle.planner.specs.Planning.{walked, Answer as Outcome}
 use Rattle.trials.specs.Operations.{rejected}
 use Rattle.walk_check.specs.declared.Occurrence.{Occurrence}
@@ -10,6 +10,11 @@ use mathlib.Core.List.{List, [], ◌∷◌, ◌++◌, Permᴰ, Memᴰ}
 use Rattle.std.proofs.Math.Option.{some}
 use Rattle.lists.specs.Distinct.{Distinct}
 use Rattle.limits.specs.Limits.{area_size, longest, longest_path, most_sets, most_paths}
+use Rattle.dates.specs.declared.MonthDay.{MonthDay}
+use Rattle.dates.specs.declared.Date.{Date}
+use Rattle.dates.specs.declared.Window.{Window}
+use Rattle.dates.specs.Dates.{month_day, is_date}
+use Rattle.dates.specs.Calendar.{Months, LeapYear, IsDay, IsDate, Rising, Inside, InSeason, IsWindow, leap_day, day_after, Complements}
 use Rattle.walks.specs.Graph.{Graph}
 use Rattle.walks.specs.Walk.{Walk, weight_of, hops}
 use Rattle.walks.specs.Avoid.{Occurs, Long, ◌⊆◌}
@@ -32,7 +37,7 @@ use Rattle.book.specs.declared.Refusal.{Refusal}
 use Rattle.book.specs.Refusal.{Test, number_of}
 use Rattle.book.specs.Book.{Book, counts, graph, RuleSet, All, all_paths}
 use Rattle.book.specs.Reading.{Reading, accepted, refused, reading, read_as, refusal_of}
-use Rattle.book_bytes.specs.Bytes.{AreBytes, bytes_of, Keeps, longest_book}
+use Rattle.book_bytes.specs.Bytes.{AreBytes, bytes_of, ProperNeeds, Keeps, longest_book}
 use Rattle.rules.specs.Binding.{known}
 use Rattle.rules.specs.Area.{spelled, written}
 use Rattle.rules.specs.ValidLaws.{Valid}
@@ -44,6 +49,7 @@ use Rattle.ends.specs.Ends.{no_end, ends}
 use Rattle.ends.specs.Least.{entries}
 use Rattle.reach.specs.Reaching.{reach_tests, reached, table_after, Reaching}
 use Rattle.book.specs.declared.Arc.{Arc as Item}
+use Rattle.rules.specs.declared.Batch.{Batch}
 use Rattle.listed.specs.Listing.{listing}
 use Rattle.listed.specs.SameBook.{arcs_of}
 use Rattle.trial_record.specs.declared.Record.{Record}
@@ -73,31 +79,31 @@ pub record GetsPlan (P : Outcome → List ℕ → Type 0) : Type 0 where
   pub answered : (r : Outcome) × (new : List ℕ) × P r new
   pub each : (r : Outcome) (new : List ℕ) → P r new → WalkOrNone r
 
--- A book b, a batch with these flags, start and end; the runs area and the line-up area as lent.
-pub record Answers (s : List ℕ) (b : Book) (flags start end : ℕ) (paths walk : List ℕ) : Type 0 where
+-- A book b, a batch, start and end; the runs area and the line-up area as lent.
+pub record Answers (s : List ℕ) (b : Book) (batch : Batch) (start end : ℕ) (paths walk : List ℕ) : Type 0 where
   -- The book is read: the counts of grades, changeovers, sheets and runs are answered.
   pub read : read_as (reading s) ≡ Ok (counts b)
   -- Binding answers the count of known runs.
-  pub bound : bound_as (binding s flags paths) ≡ Ok (length (known flags b.sets))
+  pub bound : bound_as (binding s batch paths) ≡ Ok (length (known batch b.sets))
   -- Planning under what binding left answers a line-up or none ...
-  pub planned : GetsPlan (Planning s (area_after (binding s flags paths) paths) (length (known flags b.sets)) start end walk)
+  pub planned : GetsPlan (Planning s (area_after (binding s batch paths) paths) (length (known batch b.sets)) start end walk)
   -- ... and so does planning from the book's changeovers as a list, in any order.
   pub planned_list : (n : ℕ) (xs : List Item) → n ≡ b.count → Permᴰ b.arcs (arcs_of xs)
-      → GetsPlan (PlanningOf (listing n xs) (area_after (binding s flags paths) paths) (length (known flags b.sets)) start end walk)
+      → GetsPlan (PlanningOf (listing n xs) (area_after (binding s batch paths) paths) (length (known batch b.sets)) start end walk)
   -- The check of a line-up under what binding left answers that it is clear, or where a run stands.
   pub checked : (w : List ℕ) → length w ≤ longest → Walk (graph b) w
-      → ClearOrOccurs (checking s (area_after (binding s flags paths) paths) (length (known flags b.sets)) w)
+      → ClearOrOccurs (checking s (area_after (binding s batch paths) paths) (length (known batch b.sets)) w)
   -- Begin answers a record, and so does begin with any list of reports.
-  pub begun : (r : Record) × ((beginning s flags start end paths walk).answer ≡ Ok r)
-  pub replayed : (reports : List ℕ) → (r : Record) × ((replaying s flags start end reports paths walk).answer ≡ Ok r)
+  pub begun : (r : Record) × ((beginning s batch start end paths walk).answer ≡ Ok r)
+  pub replayed : (reports : List ℕ) → (r : Record) × ((replaying s batch start end reports paths walk).answer ≡ Ok r)
   -- Planning and the check answer under every valid runs area, not only under what binding left.
   pub planned-under : (count : ℕ) → Valid b.count paths count → GetsPlan (Planning s paths count start end walk)
   pub checked_under : (count : ℕ) → Valid b.count paths count → (w : List ℕ) → length w ≤ longest → Walk (graph b) w → ClearOrOccurs (checking s paths count w)
 
 -- ---- 'Everything else gets its numbered refusal, under that refusal's stated condition and no other, and a refusal writes to no lent memory.'
 -- What begin, and begin with a list of reports, are refused for.
-abbrev pub tests_of_begin : ℕ → ℕ → List ℕ → List ℕ → Book → List Test
-tests_of_begin start end paths walk b = begin_tests (graph b) start end paths walk
+abbrev pub tests_of_begin : Batch → ℕ → ℕ → List ℕ → List ℕ → Book → List Test
+tests_of_begin batch start end paths walk b = begin_tests batch (graph b) start end paths walk
 
 -- An operation answers with the refusal x exactly where the one definition of what it is refused for gives x; and that is where the book is refused
 -- under x, or x has the number of the first condition that does not hold.
@@ -111,7 +117,7 @@ pub record Refusals (s : List ℕ) (x : Refusal) : Type 0 where
   pub read : (read_as (reading s) ≡ Err x) ↔ (reading s ≡ refused x)
   pub read-cause : (reading s ≡ refused x) ↔ BadBook s x
   pub list_cause : (n : ℕ) (xs : List Item) → (listing n xs ≡ refused x) ↔ BadList n xs x
-  pub bind : (flags : ℕ) (area : List ℕ) → Exactly (reading s) (bind_tests area) (bind_conditions area) x (bound_as (binding s flags area) ≡ Err x)
+  pub bind : (batch : Batch) (area : List ℕ) → Exactly (reading s) (bind_tests batch area) (bind_conditions batch area) x (bound_as (binding s batch area) ≡ Err x)
   pub check : (area : List ℕ) (count : ℕ) (w : List ℕ)
       → Exactly (reading s) (check_tests area count w) (check_conditions area count w) x (checking s area count w ≡ Err x)
   pub plan : (paths : List ℕ) (count start end : ℕ) (old : List ℕ) (r : Outcome) (new : List ℕ) → Planning s paths count start end old r new
@@ -121,27 +127,27 @@ pub record Refusals (s : List ℕ) (x : Refusal) : Type 0 where
       → Exactly (listing n xs) (plan_tests paths count start end old) (plan_conditions paths count start end old) x (r ≡ Err x)
   pub reach : (paths : List ℕ) (count start : ℕ) (table : List ℕ)
       → Exactly (reading s) (reach_tests paths count start table) (reach_conditions paths count start table) x (reached (reading s) paths count start table ≡ Err x)
-  pub begin : (flags start end : ℕ) (paths walk : List ℕ)
-      → Exactly (reading s) (tests_of_begin start end paths walk) (begin_conditions start end paths walk) x ((beginning s flags start end paths walk).answer ≡ Err x)
-  pub replay : (flags start end : ℕ) (reports paths walk : List ℕ)
-      → Exactly (reading s) (tests_of_begin start end paths walk) (begin_conditions start end paths walk) x
-      ((replaying s flags start end reports paths walk).answer ≡ Err x)
+  pub begin : (batch : Batch) (start end : ℕ) (paths walk : List ℕ)
+      → Exactly (reading s) (tests_of_begin batch start end paths walk) (begin_conditions batch start end paths walk) x ((beginning s batch start end paths walk).answer ≡ Err x)
+  pub replay : (batch : Batch) (start end : ℕ) (reports paths walk : List ℕ)
+      → Exactly (reading s) (tests_of_begin batch start end paths walk) (begin_conditions batch start end paths walk) x
+      ((replaying s batch start end reports paths walk).answer ≡ Err x)
   -- A report is passed, or failed with a named run.
   pub report : (q : Record) (paths walk : List ℕ) (ρ : Report)
       → Exactly (reading s) (report_tests q paths walk ρ) (report_conditions q paths walk ρ) x
       ((q' : Record) × ((reporting s q paths walk ρ).answer ≡ Err (rejected x q')))
   -- '.. and a refusal writes to no lent memory.' Reading and the check are lent none to write to. 01: it 'hands back as it came a record that the call took'.
-  pub bind-keeps : (flags : ℕ) (area : List ℕ) → bound_as (binding s flags area) ≡ Err x → area_after (binding s flags area) area ≡ area
+  pub bind-keeps : (batch : Batch) (area : List ℕ) → bound_as (binding s batch area) ≡ Err x → area_after (binding s batch area) area ≡ area
   pub plan-keeps : (paths : List ℕ) (count start end : ℕ) (old : List ℕ) (r : Outcome) (new : List ℕ) → Planning s paths count start end old r new
       → r ≡ Err x → new ≡ old
   pub plan_list_keeps : (n : ℕ) (xs : List Item) (paths : List ℕ) (count start end : ℕ) (old : List ℕ) (r : Outcome) (new : List ℕ)
       → PlanningOf (listing n xs) paths count start end old r new → r ≡ Err x → new ≡ old
   pub reach-keeps : (paths : List ℕ) (count start : ℕ) (table : List ℕ) → reached (reading s) paths count start table ≡ Err x
       → table_after (reading s) paths count start table ≡ table
-  pub begin-keeps : (flags start end : ℕ) (paths walk : List ℕ) → (beginning s flags start end paths walk).answer ≡ Err x
-      → beginning s flags start end paths walk ≡ answering (Err x) paths walk
-  pub replay-keeps : (flags start end : ℕ) (reports paths walk : List ℕ) → (replaying s flags start end reports paths walk).answer ≡ Err x
-      → replaying s flags start end reports paths walk ≡ answering (Err x) paths walk
+  pub begin-keeps : (batch : Batch) (start end : ℕ) (paths walk : List ℕ) → (beginning s batch start end paths walk).answer ≡ Err x
+      → beginning s batch start end paths walk ≡ answering (Err x) paths walk
+  pub replay-keeps : (batch : Batch) (start end : ℕ) (reports paths walk : List ℕ) → (replaying s batch start end reports paths walk).answer ≡ Err x
+      → replaying s batch start end reports paths walk ≡ answering (Err x) paths walk
   pub report-keeps : (q : Record) (paths walk : List ℕ) (ρ : Report) → (q' : Record) × ((reporting s q paths walk ρ).answer ≡ Err (rejected x q'))
       → reporting s q paths walk ρ ≡ answering (Err (rejected x q)) paths walk
 
@@ -152,69 +158,70 @@ pub record Demand1 : Type 0 where
   pub own-bytes : (b : Book) → Keeps b → AreBytes (bytes_of b)
   pub every_book : (b : Book) → Keeps b → reading (bytes_of b) ≡ accepted b
   pub one_string : (s t : List ℕ) → AreBytes s → AreBytes t → (b : Book) → reading s ≡ accepted b → reading t ≡ accepted b → s ≡ t
-  -- 01: 'The longest acceptable book has 39,188 bytes.' There is one.
+  -- 02: 'The longest book becomes 39,252 bytes'. There is one.
   pub no_longer : (s : List ℕ) (b : Book) → reading s ≡ accepted b → length s ≤ longest_book
   pub attained : (b : Book) × Keeps b × (length (bytes_of b) ≡ longest_book)
-  -- '.. and every batch, start grade and end grade within it, with areas of the sizes set there, gets a line-up or the answer none.'
-  pub answered : (s : List ℕ) (b : Book) → reading s ≡ accepted b → (flags start end : ℕ) → start < b.count → end < b.count
-      → (paths walk : List ℕ) → area_size ≤ length paths → longest ≤ length walk → Answers s b flags start end paths walk
+  -- '.. and every batch, start grade and end grade within it, with areas of the sizes set there, gets a line-up or the answer none.' 02: a batch has
+  -- a date of the years 1900 to 2199.
+  pub answered : (s : List ℕ) (b : Book) → reading s ≡ accepted b → (batch : Batch) → IsDate batch.date → (start end : ℕ) → start < b.count → end < b.count
+      → (paths walk : List ℕ) → area_size ≤ length paths → longest ≤ length walk → Answers s b batch start end paths walk
   -- 'Everything else gets its numbered refusal, under that refusal's stated condition and no other, and a refusal writes to no lent memory.'
   pub else_refused : (s : List ℕ) → AreBytes s → ((x : Refusal) × (reading s ≡ refused x)) ↔ ((b : Book) → Keeps b → s ≡ bytes_of b → ⊥)
   pub refusals : (s : List ℕ) (x : Refusal) → Refusals s x
 
 -- ==== Demand 2
 -- A line-up from start to end that contains no forbidden run of any sheet that binds the batch.
-pub record Allowed (b : Book) (flags start end : ℕ) (w : List ℕ) : Type 0 where
+pub record Allowed (b : Book) (batch : Batch) (start end : ℕ) (w : List ℕ) : Type 0 where
   pub walk : Walk (graph b) w
   pub starts : get_or w 0 0 ≡ start
   pub ends : get_or w (hops w) 0 ≡ end
-  pub clear : Clear b flags w
+  pub clear : Clear b batch w
 
 -- Where planning answers litres and changeovers, the line-up is the front of the area: a grade more than changeovers.
 abbrev pub line_up : ℕ → List ℕ → List ℕ
 line_up changeovers new = take (suc changeovers) new
 
-pub record Shortest (b : Book) (flags start end : ℕ) (old : List ℕ) (litres changeovers : ℕ) (new : List ℕ) : Type 0 where
+pub record Shortest (b : Book) (batch : Batch) (start end : ℕ) (old : List ℕ) (litres changeovers : ℕ) (new : List ℕ) : Type 0 where
   -- 'it contains no forbidden run of any sheet that binds the batch'; and it is a line-up from start to end
-  pub allowed : Allowed b flags start end (line_up changeovers new)
+  pub allowed : Allowed b batch start end (line_up changeovers new)
   pub litres_are : litres ≡ weight_of (graph b) (line_up changeovers new)
   pub changeovers_are : changeovers ≡ hops (line_up changeovers new)
   -- 'every other such line-up loses at least as many litres to slop'
-  pub least : (v : List ℕ) → Allowed b flags start end v → litres ≤ weight_of (graph b) v
+  pub least : (v : List ℕ) → Allowed b batch start end v → litres ≤ weight_of (graph b) v
   -- 'ties fall as 01 says': of those with the least litres, the fewest changeovers; of these, the one whose first differing grade is the lower
-  pub fewest : (v : List ℕ) → Allowed b flags start end v → weight_of (graph b) v ≡ litres → changeovers ≤ hops v
-  pub lowest : (v : List ℕ) → Allowed b flags start end v → weight_of (graph b) v ≡ litres → hops v ≡ changeovers → Lex (line_up changeovers new) v
+  pub fewest : (v : List ℕ) → Allowed b batch start end v → weight_of (graph b) v ≡ litres → changeovers ≤ hops v
+  pub lowest : (v : List ℕ) → Allowed b batch start end v → weight_of (graph b) v ≡ litres → hops v ≡ changeovers → Lex (line_up changeovers new) v
   -- (all three as 01's one order)
-  pub ordered : (v : List ℕ) → Allowed b flags start end v → line_up changeovers new ≼⟨ graph b ⟩ v
+  pub ordered : (v : List ℕ) → Allowed b batch start end v → line_up changeovers new ≼⟨ graph b ⟩ v
   -- 01: 'A plan has at most 1,600 grades, a byte each in the area; bytes after it are untouched.'
   pub short : length (line_up changeovers new) ≤ longest
   pub untouched : drop (suc changeovers) new ≡ drop (suc changeovers) old
   pub same_length : length new ≡ length old
 
--- What planning answers and leaves, for a batch with these flags.
-pub record Plans (b : Book) (flags start end : ℕ) (old : List ℕ) (r : Outcome) (new : List ℕ) : Type 0 where
+-- What planning answers and leaves, for a batch.
+pub record Plans (b : Book) (batch : Batch) (start end : ℕ) (old : List ℕ) (r : Outcome) (new : List ℕ) : Type 0 where
   -- The answer is a line-up or none, never a refusal.
   pub answer : WalkOrNone r
   -- A line-up is the shortest of those that are allowed.
-  pub shortest : (litres changeovers : ℕ) → r ≡ walked litres changeovers → Shortest b flags start end old litres changeovers new
+  pub shortest : (litres changeovers : ℕ) → r ≡ walked litres changeovers → Shortest b batch start end old litres changeovers new
   -- 'none is the answer exactly when no such line-up exists'
-  pub none-exactly : (r ≡ Ok Prelude.None) ↔ ((v : List ℕ) → Allowed b flags start end v → ⊥)
+  pub none-exactly : (r ≡ Ok Prelude.None) ↔ ((v : List ℕ) → Allowed b batch start end v → ⊥)
   -- 01: 'If there is none, .. the line-up area is untouched.'
   pub none-untouched : r ≡ (Ok Prelude.None) → new ≡ old
 
 -- Binding for a batch, and planning under the count that it answered and the runs area as it left it.
-pub record BatchPlans (s : List ℕ) (b : Book) (flags : ℕ) (area : List ℕ) (known' start end : ℕ) (old : List ℕ) : Type 0 where
+pub record BatchPlans (s : List ℕ) (b : Book) (batch : Batch) (area : List ℕ) (known' start end : ℕ) (old : List ℕ) : Type 0 where
   -- There is an answer, and only one, with one set of bytes.
-  pub answered : (r : Outcome) × (new : List ℕ) × Planning s (area_after (binding s flags area) area) known' start end old r new
-  pub one : (r r' : Outcome) (new new' : List ℕ) → Planning s (area_after (binding s flags area) area) known' start end old r new
-      → Planning s (area_after (binding s flags area) area) known' start end old r' new' → (r ≡ r') × (new ≡ new')
+  pub answered : (r : Outcome) × (new : List ℕ) × Planning s (area_after (binding s batch area) area) known' start end old r new
+  pub one : (r r' : Outcome) (new new' : List ℕ) → Planning s (area_after (binding s batch area) area) known' start end old r new
+      → Planning s (area_after (binding s batch area) area) known' start end old r' new' → (r ≡ r') × (new ≡ new')
   -- What it is.
-  pub plans : (r : Outcome) (new : List ℕ) → Planning s (area_after (binding s flags area) area) known' start end old r new → Plans b flags start end old r new
+  pub plans : (r : Outcome) (new : List ℕ) → Planning s (area_after (binding s batch area) area) known' start end old r new → Plans b batch start end old r new
   -- So is a plan from the book's changeovers as a list.
   pub plans_list : (n : ℕ) (xs : List Item) → n ≡ b.count → Permᴰ b.arcs (arcs_of xs) → (r : Outcome) (new : List ℕ)
-      → PlanningOf (listing n xs) (area_after (binding s flags area) area) known' start end old r new → Plans b flags start end old r new
-  -- 01: 'A sheet that needs 0 binds every batch.'
-  pub needs_0 : (set : RuleSet) → set.flags ≡ 0 → Binds set flags
+      → PlanningOf (listing n xs) (area_after (binding s batch area) area) known' start end old r new → Plans b batch start end old r new
+  -- 01: 'A sheet that needs 0 binds every batch.' 02: if it has no window.
+  pub needs_0 : (set : RuleSet) → set.needs.flags ≡ 0 → set.needs.window ≡ Prelude.None → Binds set batch
 
 -- Two begins leave the same trials: equal answers and line-up areas; and where it is a record, runs areas with the same runs, in another order
 -- perhaps, and the same bytes after them.
@@ -227,31 +234,31 @@ pub record SameTrials (l l' : Leaves (Result Record Refusal)) : Type 0 where
 -- Of the bytes of two books: equal plans and tables of ends.
 pub record SamePlans (s s' : List ℕ) : Type 0 where
   -- For every batch, start and end, and every line-up area, refusals included.
-  pub plans : (flags : ℕ) (area area' : List ℕ) → area_size ≤ length area → area_size ≤ length area'
-      → (n n' : ℕ) → bound_as (binding s flags area) ≡ Ok n → bound_as (binding s' flags area') ≡ Ok n'
+  pub plans : (batch : Batch) (area area' : List ℕ) → area_size ≤ length area → area_size ≤ length area'
+      → (n n' : ℕ) → bound_as (binding s batch area) ≡ Ok n → bound_as (binding s' batch area') ≡ Ok n'
       → (start end : ℕ) (old : List ℕ) (r r' : Outcome) (new new' : List ℕ)
-      → Planning s (area_after (binding s flags area) area) n start end old r new
-      → Planning s' (area_after (binding s' flags area') area') n' start end old r' new'
+      → Planning s (area_after (binding s batch area) area) n start end old r new
+      → Planning s' (area_after (binding s' batch area') area') n' start end old r' new'
       → (r ≡ r') × (new ≡ new')
   -- The table of every end, of every length, refusals included.
-  pub tables : (flags : ℕ) (area area' : List ℕ) → area_size ≤ length area → area_size ≤ length area'
-      → (n n' : ℕ) → bound_as (binding s flags area) ≡ Ok n → bound_as (binding s' flags area') ≡ Ok n'
+  pub tables : (batch : Batch) (area area' : List ℕ) → area_size ≤ length area → area_size ≤ length area'
+      → (n n' : ℕ) → bound_as (binding s batch area) ≡ Ok n → bound_as (binding s' batch area') ≡ Ok n'
       → (start : ℕ) (table : List ℕ)
-      → (reached (reading s) (area_after (binding s flags area) area) n start table ≡ reached (reading s') (area_after (binding s' flags area') area') n' start table)
-      × (table_after (reading s) (area_after (binding s flags area) area) n start table ≡ table_after (reading s') (area_after (binding s' flags area') area') n' start table)
+      → (reached (reading s) (area_after (binding s batch area) area) n start table ≡ reached (reading s') (area_after (binding s' batch area') area') n' start table)
+      × (table_after (reading s) (area_after (binding s batch area) area) n start table ≡ table_after (reading s') (area_after (binding s' batch area') area') n' start table)
 
 -- ... and with them as many known runs, and the same trials.
 pub record SameAnswers (s s' : List ℕ) : Type 0 where
-  pub counts : (flags : ℕ) (area area' : List ℕ) → area_size ≤ length area → area_size ≤ length area' → bound_as (binding s flags area) ≡ bound_as (binding s' flags area')
+  pub counts : (batch : Batch) (area area' : List ℕ) → area_size ≤ length area → area_size ≤ length area' → bound_as (binding s batch area) ≡ bound_as (binding s' batch area')
   pub planning : SamePlans s s'
-  pub trials : (flags start end : ℕ) (paths walk : List ℕ) → SameTrials (beginning s flags start end paths walk) (beginning s' flags start end paths walk)
+  pub trials : (batch : Batch) (start end : ℕ) (paths walk : List ℕ) → SameTrials (beginning s batch start end paths walk) (beginning s' batch start end paths walk)
 
 -- ---- the demand
 pub record Demand2 : Type 0 where
   -- 'A plan under the known runs that binding gives is a shortest path avoiding forbidden subpaths': n is the count that binding answered.
-  pub plan : (s : List ℕ) (b : Book) → reading s ≡ accepted b → (flags : ℕ) (area : List ℕ) → area_size ≤ length area
-      → (n : ℕ) → bound_as (binding s flags area) ≡ Ok n → (start end : ℕ) → start < b.count → end < b.count → (old : List ℕ) → longest ≤ length old
-      → BatchPlans s b flags area n start end old
+  pub plan : (s : List ℕ) (b : Book) → reading s ≡ accepted b → (batch : Batch) (area : List ℕ) → area_size ≤ length area
+      → (n : ℕ) → bound_as (binding s batch area) ≡ Ok n → (start end : ℕ) → start < b.count → end < b.count → (old : List ℕ) → longest ≤ length old
+      → BatchPlans s b batch area n start end old
   -- 'Two accepted books that differ only in the order of their sheets give equal plans.' Of what is read, and of the books' bytes.
   pub order-of_sheets : (s t : List ℕ) (b c : Book) → reading s ≡ accepted b → reading t ≡ accepted c → Reordered b c → SameAnswers s t
   pub order_in_bytes : (b c : Book) → Keeps b → Keeps c → Reordered b c → SameAnswers (bytes_of b) (bytes_of c)
@@ -296,10 +303,10 @@ pub record Order1 : Type 0 where
       → (table : List ℕ) → 2 * b.count ≤ length table → (r : Result ℕ Refusal) (new : List ℕ) → Reaching (reading s) paths count start table r new
       → EveryEnd s b paths count start table r new
   -- So under the known runs that binding gives, where n is the count that it answered.
-  pub batch : (s : List ℕ) (b : Book) → reading s ≡ accepted b → (flags : ℕ) (area : List ℕ) → area_size ≤ length area → (n : ℕ) → bound_as (binding s flags area) ≡ Ok n
+  pub batch : (s : List ℕ) (b : Book) → reading s ≡ accepted b → (batch : Batch) (area : List ℕ) → area_size ≤ length area → (n : ℕ) → bound_as (binding s batch area) ≡ Ok n
       → (start : ℕ) → start < b.count → (table : List ℕ) → 2 * b.count ≤ length table
-      → (r : Result ℕ Refusal) (new : List ℕ) → Reaching (reading s) (area_after (binding s flags area) area) n start table r new
-      → EveryEnd s b (area_after (binding s flags area) area) n start table r new
+      → (r : Result ℕ Refusal) (new : List ℕ) → Reaching (reading s) (area_after (binding s batch area) area) n start table r new
+      → EveryEnd s b (area_after (binding s batch area) area) n start table r new
 
 -- ==== Runs that come back to a grade (02, order 2)
 -- Two to eight grades below the count: all that the rules ask of a run. Said apart from `IsPath`, so that what is proved of it does not follow a test that `IsPath` might get.
@@ -317,13 +324,13 @@ pub record Tried (b : Book) (q : Record) (paths walk : List ℕ) : Type 0 where
 -- The same grades and changeovers; and each run of the one's binding sheets is one of the other's, or names a grade twice in succession.
 pub record ButStutteringRuns (b c : Book) : Type 0 where
   pub same : SameGraph b c
-  pub to : (flags : ℕ) (r : List ℕ) → OfSheet b flags r → OfSheet c flags r ⊎ Stutters r
-  pub from : (flags : ℕ) (r : List ℕ) → OfSheet c flags r → OfSheet b flags r ⊎ Stutters r
+  pub to : (batch : Batch) (r : List ℕ) → OfSheet b batch r → OfSheet c batch r ⊎ Stutters r
+  pub from : (batch : Batch) (r : List ℕ) → OfSheet c batch r → OfSheet b batch r ⊎ Stutters r
 
 pub record Order2 : Type 0 where
   -- 'A run may name a grade more than once, in a sheet and from the lab. .. Refusals 4, 9 and 12 no longer turn on a grade named twice.' A book is
   -- read with any runs in its sheets; a runs area holds any different runs; and from the lab any is accepted that stands in the line-up, while there is room.
-  pub in_sheets : (b : Book) → Keeps b → (sets : List RuleSet) → length sets ≤ most_sets → All (λ s. s.flags < 65536) sets → length (all_paths sets) ≤ most_paths
+  pub in_sheets : (b : Book) → Keeps b → (sets : List RuleSet) → length sets ≤ most_sets → All (λ s. ProperNeeds s.needs) sets → length (all_paths sets) ≤ most_paths
       → All (IsRun b.count) (all_paths sets)
       → let c : Book = record { count = b.count; arcs = b.arcs; sets = sets } in reading (bytes_of c) ≡ accepted c
   pub in_area : (count : ℕ) (F : List (List ℕ)) → length F ≤ most_paths → Distinct F → All (IsRun count) F → (beyond : List ℕ) → Valid count (written F ++ beyond) (length F)
@@ -331,8 +338,8 @@ pub record Order2 : Type 0 where
       → (r : List ℕ) → 2 ≤ length r → length r ≤ longest_path → Occurs r (take q.length walk)
       → (q' : Record) × ((reporting s q paths walk (failed r)).answer ≡ Ok q')
   -- Binding writes the runs of the binding sheets, whatever grades they name again: just these, each once, and as many as it answers.
-  pub bound : (s : List ℕ) (b : Book) → reading s ≡ accepted b → (flags : ℕ) (area : List ℕ) → area_size ≤ length area → (n : ℕ) → bound_as (binding s flags area) ≡ Ok n
-      → (runs : HowMany (OfSheet b flags) n) × (runs.listed ≡ spelled n (area_after (binding s flags area) area))
+  pub bound : (s : List ℕ) (b : Book) → reading s ≡ accepted b → (batch : Batch) (area : List ℕ) → area_size ≤ length area → (n : ℕ) → bound_as (binding s batch area) ≡ Ok n
+      → (runs : HowMany (OfSheet b batch) n) × (runs.listed ≡ spelled n (area_after (binding s batch area) area))
   -- 'A run may also name the same grade twice in succession, and then it never occurs.'
   pub never-occurs : (s : List ℕ) (b : Book) → reading s ≡ accepted b → (r : List ℕ) → Stutters r → (w : List ℕ) → Walk (graph b) w → Occurs r w → ⊥
   -- So the best line-up is the same with it and without it, and so is that there is none ...
@@ -411,18 +418,90 @@ pub record Order3 : Type 0 where
   -- ... so with the number that the test program counts as the most changeovers (`most_from`): there is never more than one pass over it.
   pub test : (s : List ℕ) (b : Book) → reading s ≡ accepted b → (end r : ℕ) → end < b.count → Counted (graph b) end r → r ≤ suc (most_from s b.count b.count)
 
+-- ==== Sheets with a season (02, order 4)
+-- A sheet without its window.
+abbrev pub always : RuleSet → RuleSet
+always set = record { needs = record { flags = set.needs.flags; window = Prelude.None }; paths = set.paths }
+
+-- '.. schedulers now add and remove it by the calendar': the sheets of the one list that are in season on a day, without their windows, are the other list.
+pub data ByHand (day : MonthDay) : List RuleSet → List RuleSet → Type 0 where
+  no_more : ByHand day [] []
+  added : {set : RuleSet} {sets sets' : List RuleSet} → InSeason set.needs.window day → ByHand day sets sets' → ByHand day (set ∷ sets) (always set ∷ sets')
+  removed : {set : RuleSet} {sets sets' : List RuleSet} → (InSeason set.needs.window day → ⊥) → ByHand day sets sets' → ByHand day (set ∷ sets) sets'
+
+-- Of the bytes of two books, each with a batch: binding, planning, the table of ends, the check and the trials answer the same and leave the same bytes, refusals included.
+pub record SameBatches (s : List ℕ) (batch : Batch) (s' : List ℕ) (batch' : Batch) : Type 0 where
+  pub bound : (area : List ℕ) → bound_as (binding s batch area) ≡ bound_as (binding s' batch' area)
+  pub left : (area : List ℕ) → area_after (binding s batch area) area ≡ area_after (binding s' batch' area) area
+  pub plans : (area : List ℕ) (count start end : ℕ) (old : List ℕ) (r : Outcome) (new : List ℕ) → Planning s area count start end old r new ↔ Planning s' area count start end old r new
+  pub tables : (area : List ℕ) (count start : ℕ) (table : List ℕ)
+      → (reached (reading s) area count start table ≡ reached (reading s') area count start table) × (table_after (reading s) area count start table ≡ table_after (reading s') area count start table)
+  pub checks : (area : List ℕ) (count : ℕ) (w : List ℕ) → checking s area count w ≡ checking s' area count w
+  pub begun : (start end : ℕ) (paths walk : List ℕ) → beginning s batch start end paths walk ≡ beginning s' batch' start end paths walk
+  pub reports : (q : Record) (paths walk : List ℕ) (ρ : Report) → reporting s q paths walk ρ ≡ reporting s' q paths walk ρ
+  pub replayed : (start end : ℕ) (reports paths walk : List ℕ) → replaying s batch start end reports paths walk ≡ replaying s' batch' start end reports paths walk
+
+-- The days of a year, as dates that a batch may have, in their order; and how many.
+pub record DatesOf (year n : ℕ) : Type 0 where
+  pub days : List MonthDay
+  pub each : (d : MonthDay) → Memᴰ d days ↔ IsDate (record { day = d.day; month = d.month; year = year })
+  pub rising : Rising days
+  pub number : length days ≡ n
+
+-- From 29 February to 29 February.
+abbrev pub from_leap_day : Window
+from_leap_day = record { first = leap_day; last = leap_day }
+
+pub record Order4 : Type 0 where
+  -- 'A sheet field may have length 6', 14 and 15, and the longest book are in demand 1 (`read-exactly`, `refusals`, `no_longer` and `attained`): 14 stands between 4 and 5
+  -- in the conditions of a field (`field_conditions`), 15 last in those of binding, after 8, and of begin, after 8 and 7 (`bind_conditions`, `begin_conditions`). What `plan` and
+  -- `board` read stands in the contracts of `answer` and `board`, and the listing in `examples` (`listing_printed`).
+  -- 'A batch has a date of the Gregorian calendar, years 1900 to 2199': the test of 15 takes just these, so that a leap year has 366 days and another 365.
+  pub dates : (d : Date) → (is_date d ≡ true) ↔ IsDate d
+  -- The days of each month; and 'a window edge that no year has' (14): a leap year has each day that some year has.
+  pub months : (leap : Bool) → Months leap
+  pub edges : (d : MonthDay) → IsDay true d ↔ ((year : ℕ) × IsDate (record { day = d.day; month = d.month; year = year }))
+  pub leap_years : (year : ℕ) → 1900 ≤ year → year ≤ 2199 → LeapYear year → DatesOf year 366
+  pub other-years : (year : ℕ) → 1900 ≤ year → year ≤ 2199 → (LeapYear year → ⊥) → DatesOf year 365
+  -- 15 is the refusal of any other date, where all that is asked before it holds.
+  pub no_date_bound : (s : List ℕ) (b : Book) → reading s ≡ accepted b → (batch : Batch) → (IsDate batch.date → ⊥) → (area : List ℕ) → area_size ≤ length area
+      → (x : Refusal) × (number_of x ≡ 15) × (bound_as (binding s batch area) ≡ Err x)
+  pub no_date-begun : (s : List ℕ) (b : Book) → reading s ≡ accepted b → (batch : Batch) → (IsDate batch.date → ⊥) → (start end : ℕ) → start < b.count → end < b.count
+      → (paths walk : List ℕ) → area_size ≤ length paths → longest ≤ length walk
+      → (x : Refusal) × (number_of x ≡ 15) × (beginning s batch start end paths walk ≡ answering (Err x) paths walk)
+  -- 'Both days count. A window whose last day comes before its first runs over the year's end' (`Inside`); 'equal days make one day'.
+  pub both_days : (w : Window) → Inside w w.first × Inside w w.last
+  pub one_day : (w : Window) → w.first ≡ w.last → (d : MonthDay) → Inside w d ↔ (d ≡ w.first)
+  -- A window that begins on the day after its end is the whole year.
+  pub whole_year : (w : Window) → IsWindow w → day_after w.last ≡ w.first → (d : MonthDay) → IsDay true d → Inside w d
+  -- Where each of two windows begins on the day after the other ends, every day lies in one of them and no day in both. They are two, and begin on different days: a window
+  -- of the whole year has no complement.
+  pub one_of_two : (v w : Window) → IsWindow v → IsWindow w → Complements v w → (d : MonthDay) → IsDay true d
+      → (Inside v d × (Inside w d → ⊥)) ⊎ ((Inside v d → ⊥) × Inside w d)
+  -- '29 February is a valid edge': a window from it to it holds on no day of a year that is no leap year.
+  pub leap_day_alone : IsWindow from_leap_day × ((d : MonthDay) → IsDay false d → Inside from_leap_day d → ⊥)
+  -- 'A sheet binds when the batch has the marks that it needs and the date lies in its window, if it has one': the known runs are those of the sheets that bind.
+  pub known-runs : (b : Book) (batch : Batch) (r : List ℕ) → Memᴰ r (known batch b.sets) ↔ OfSheet b batch r
+  -- What the window does is what schedulers do by hand: the book with the sheets of the day, without their windows, gives the same under the same marks on any date.
+  pub by_hand : (s s' : List ℕ) (b c : Book) → reading s ≡ accepted b → reading s' ≡ accepted c → SameGraph b c
+      → (batch batch' : Batch) → IsDate batch.date → IsDate batch'.date → batch.flags ≡ batch'.flags → ByHand (month_day batch.date) b.sets c.sets
+      → SameBatches s batch s' batch'
+  -- So the date decides nothing in a book without windows.
+  pub no_windows : (s : List ℕ) (b : Book) → reading s ≡ accepted b → All (λ set. set.needs.window ≡ Prelude.None) b.sets
+      → (batch batch' : Batch) → IsDate batch.date → IsDate batch'.date → batch.flags ≡ batch'.flags → SameBatches s batch s batch'
+
 -- ==== Demand 3
 -- After an accepted begin β the reports ρs were made, each on what the one before it left. `done` are those that were answered with
 -- acceptance; record and areas stand as l after the last.
 module _ (β : AcceptedBegin) where
-  open β use {bytes as s, book as b, flags, start, end, paths, walk}
+  open β use {bytes as s, book as b, batch, start, end, paths, walk}
 
   -- the digraph; the runs that are known after begin; the rules' plan under a list of runs
   abbrev g : Graph
   g = graph b
 
   abbrev bound : List (List ℕ)
-  bound = known flags b.sets
+  bound = known batch b.sets
 
   abbrev plan : Plan
   plan = chosen g
@@ -435,8 +514,8 @@ module _ (β : AcceptedBegin) where
     -- The record and every byte of both areas are those that the rules give, with the best of all line-ups, or none, for each plan; and the
     -- reports that the rules accept are those.
     pub planner : Planner g plan
-    pub ruled : l ≡ leaves_of (run g plan (first_state b flags start end paths walk) ρs)
-    pub accepted-ruled : done ≡ acceptedFrom g plan (first_state b flags start end paths walk) ρs
+    pub ruled : l ≡ leaves_of (run g plan (first_state b batch start end paths walk) ρs)
+    pub accepted-ruled : done ≡ acceptedFrom g plan (first_state b batch start end paths walk) ρs
     -- A refused report hands back the record as it came and leaves every byte; it is as if not made.
     pub refused-kept : (m : Leaves Record) (ρ : Report) (x : Refusal) (r : Record) → answer_on s m ρ ≡ Err (rejected x r)
         → reporting s m.answer m.paths m.walk ρ ≡ answering (Err (rejected x m.answer)) m.paths m.walk
@@ -478,25 +557,25 @@ module _ (β : AcceptedBegin) where
     pub passed_counted : l.answer.passed ≡ passes done
     pub trials-counted : l.answer.failed + l.answer.passed ≡ length done
     pub lacked : ℕ
-    pub lacked_are : HowMany (LabsOnly b flags R) lacked
+    pub lacked_are : HowMany (LabsOnly b batch R) lacked
     pub failed-bounded : l.answer.failed ≤ lacked
     pub trials-bounded : l.answer.failed + l.answer.passed ≤ lacked + 1
     -- 'While the trials are not over, no true report is refused.'
     pub true-accepted : l.answer.stage ≡ 0 → (ρ : Report) → TrueReport R l ρ → (r : Record) × (answer_on s l ρ ≡ Ok r)
     -- 'A passed line-up avoids the binding sheets' runs and all the lab's runs, and every other line-up from start to end that avoids them
     -- loses at least as many litres.' (It is the best of them: ties fall as in planning.)
-    pub passed-avoids : l.answer.stage ≡ 1 → Free b flags R start end (standing_in l)
+    pub passed-avoids : l.answer.stage ≡ 1 → Free b batch R start end (standing_in l)
     pub passed-litres : l.answer.stage ≡ 1 → l.answer.litres ≡ weight_of g (standing_in l)
-    pub passed-least : l.answer.stage ≡ 1 → (v : List ℕ) → Free b flags R start end v → l.answer.litres ≤ weight_of g v
-    pub passed-best : l.answer.stage ≡ 1 → (v : List ℕ) → Free b flags R start end v → standing_in l ≼⟨ g ⟩ v
+    pub passed-least : l.answer.stage ≡ 1 → (v : List ℕ) → Free b batch R start end v → l.answer.litres ≤ weight_of g v
+    pub passed-best : l.answer.stage ≡ 1 → (v : List ℕ) → Free b batch R start end v → standing_in l ≼⟨ g ⟩ v
     -- 'Trials that are over end in a passed line-up or in none, and in none exactly when no line-up from start to end avoids those runs.'
     pub over : l.answer.stage ≢ 0 → (l.answer.stage ≡ 1) ⊎ (l.answer.stage ≡ 2)
-    pub none-exactly : l.answer.stage ≢ 0 → (l.answer.stage ≡ 2) ↔ ((w : List ℕ) → Free b flags R start end w → ⊥)
+    pub none-exactly : l.answer.stage ≢ 0 → (l.answer.stage ≡ 2) ↔ ((w : List ℕ) → Free b batch R start end w → ⊥)
 
   -- The same of `series::replay`, which begins and makes the reports of a list of bytes: it answers the record r, and `paths'` and `walk'` are
   -- the bytes at exit. They are what the single calls leave.
   pub record ReplayOutcome (R : List (List ℕ)) (reports : List ℕ) (r : Record) (paths' walk' : List ℕ) : Type 0 where
-    pub replayed : replaying s flags start end reports paths walk ≡ answering (Ok r) paths' walk'
+    pub replayed : replaying s batch start end reports paths walk ≡ answering (Ok r) paths' walk'
     pub as_made : answering r paths' walk' ≡ reports_on s (opening β) (reports_of reports)
     pub outcome : LabOutcome R (reports_of reports) (accepted_on s (opening β) (reports_of reports)) (answering r paths' walk')
 
@@ -505,13 +584,13 @@ module _ (β : AcceptedBegin) where
 -- free of its runs. Whichever forbidden run of the tried line-up the lab names each time, if all runs together are at most 256, all of this
 -- holds after the list.'
 pub record Demand3 : Type 0 where
-  pub after_calls : (β : AcceptedBegin) (R : List (List ℕ)) → LabSet β.book β.flags R → (ρs : List Report) → TrueLab R β.bytes (opening β) ρs
+  pub after_calls : (β : AcceptedBegin) (R : List (List ℕ)) → LabSet β.book β.batch R → (ρs : List Report) → TrueLab R β.bytes (opening β) ρs
       → LabOutcome β R ρs (accepted_on β.bytes (opening β) ρs) (reports_on β.bytes (opening β) ρs)
   -- ... and after `series::replay`, of what it answers and leaves by its contract.
-  pub after-replay : (β : AcceptedBegin) (R : List (List ℕ)) → LabSet β.book β.flags R → (reports : List ℕ)
+  pub after-replay : (β : AcceptedBegin) (R : List (List ℕ)) → LabSet β.book β.batch R → (reports : List ℕ)
       → TrueLab R β.bytes (opening β) (reports_of reports)
       → (a : Result Record Refusal) (paths' walk' : List ℕ)
-      → answering a paths' walk' ≡ replaying β.bytes β.flags β.start β.end reports β.paths β.walk
+      → answering a paths' walk' ≡ replaying β.bytes β.batch β.start β.end reports β.paths β.walk
       → (r : Record) × (a ≡ Ok r) × ReplayOutcome β R reports r paths' walk'
   -- 01, 'Trials': record and areas are as the rules give them after every list, whatever the lab is.
   pub after_any : (β : AcceptedBegin) (ρs : List Report) → AsRuled β ρs (accepted_on β.bytes (opening β) ρs) (reports_on β.bytes (opening β) ρs)

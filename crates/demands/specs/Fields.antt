@@ -1,16 +1,18 @@
--- 01, 'Who can cause a refusal', of the book's maker: 1 to 6 in words, field by field. 'The first bad field decides', and 'refusals 1 to 6 carry the
--- byte at which the field starts'. Likewise 4 and 5 of a list of arcs, with the item's index. And that reading decides just this.
+-- 01, 'Who can cause a refusal', of the book's maker: 1 to 6, and 14 of 02, in words, field by field. 'The first bad field decides', and 'refusals 1 to 6 carry the
+-- byte at which the field starts', as 14 does. Likewise 4 and 5 of a list of arcs, with the item's index. And that reading decides just this.
 use Prim.Native.Nat.{ℕ, suc, ◌+◌, ◌≤◌, ◌<◌}
 use Rattle.std.specs.Prelude.{◌≡◌, ◌⊎◌, length, Option, Some, None}
 use mathlib.Core.List.{List, [], ◌∷◌, ◌++◌, Memᴰ}
 use Rattle.limits.specs.Limits.{most_vertices, most_sets, most_paths, longest_path}
+use Rattle.dates.specs.declared.Window.{Window}
+use Rattle.dates.specs.Calendar.{IsWindow}
 use Rattle.walks.specs.Graph.{Arc}
 use Rattle.book.specs.declared.Kind.{Kind}
 use Rattle.book.specs.declared.Kind.TheVariants.{VertexCount, Path}
 use Rattle.book.specs.declared.Refusal.{Refusal}
 use Rattle.book.specs.Refusal.{Test}
 use Rattle.book.specs.Book.{Book, All, IsArc, blank, all_paths}
-use Rattle.book.specs.Reading.{framing, content, extended, kind_at, length_at, end_at, count_at, arc_at, path_at, add_arc}
+use Rattle.book.specs.Reading.{framing, content, extended, kind_at, length_at, end_at, count_at, arc_at, window_at, path_at, add_arc}
 use Rattle.book.specs.declared.Arc.{Arc as Item}
 use Rattle.listed.specs.Listing.{arc_of}
 use Rattle.demands.specs.Conditions.{Condition, asks, AllHold, HasNumber, FirstFails}
@@ -28,7 +30,7 @@ Follows None b = ⊥
 abbrev pub Fits : Option Kind → ℕ → Type 0
 Fits (Some VertexCount) n = n ≡ 1
 Fits (Some Kind.Arc) n = n ≡ 6
-Fits (Some Kind.RuleSet) n = n ≡ 2
+Fits (Some Kind.RuleSet) n = (n ≡ 2) ⊎ (n ≡ 6)
 Fits (Some Path) n = (2 ≤ n) × (n ≤ longest_path)
 Fits None n = ⊥
 
@@ -39,6 +41,14 @@ Proper (Some Kind.Arc) s b at = IsArc b.count (arc_at s at)
 Proper (Some Kind.RuleSet) s b at = Unit {0}
 Proper (Some Path) s b at = All (λ v. v < b.count) (path_at s at)
 Proper None s b at = Unit {0}
+
+-- 14: the edges of a rule set's window, if it has one, are days that some year has.
+abbrev pub Seasonal : Option Kind → List ℕ → ℕ → Type 0
+Seasonal (Some VertexCount) s at = Unit {0}
+Seasonal (Some Kind.Arc) s at = Unit {0}
+Seasonal (Some Kind.RuleSet) s at = (w : Window) → window_at s at ≡ Some w → IsWindow w
+Seasonal (Some Path) s at = Unit {0}
+Seasonal None s at = Unit {0}
 
 -- 5: no arc of that tail and head before it.
 abbrev pub New : List Arc → Arc → Type 0
@@ -59,7 +69,7 @@ HasRoom (Some Kind.RuleSet) b = length b.sets < most_sets
 HasRoom (Some Path) b = length (all_paths b.sets) < most_paths
 HasRoom None b = Unit {0}
 
--- 01: 'Within a field: 1 for the head, 2, 3, 1 for the body, 4, 5, 6.'
+-- 01: 'Within a field: 1 for the head, 2, 3, 1 for the body, 4, 5, 6.' 02: 14 'in the place of 4'.
 abbrev pub field_conditions : List ℕ → Book → ℕ → List Condition
 field_conditions s b at =
     asks 1 (at + 3 ≤ length s)
@@ -67,6 +77,7 @@ field_conditions s b at =
     ∷ asks 3 (Fits (kind_at s at) (length_at s at))
     ∷ asks 1 (end_at s at ≤ length s)
     ∷ asks 4 (Proper (kind_at s at) s b at)
+    ∷ asks 14 (Seasonal (kind_at s at) s at)
     ∷ asks 5 (Fresh (kind_at s at) s b at)
     ∷ asks 6 (HasRoom (kind_at s at) b)
     ∷ []

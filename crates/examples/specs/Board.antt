@@ -1,4 +1,4 @@
--- What the program `board` prints for book A under marks 3 (02, order 1), and for an input that is cut off.
+-- What the program `board` prints for book A under marks 3 (02, order 1), on every date, and for an input that is cut off.
 use Rattle.std.specs.Prelude.{ℕ, List, [], ◌∷◌}
 
 -- Start 0: `0 LITRES 0 CHANGES 0`, `1 LITRES 100 CHANGES 1`, `2 LITRES 200 CHANGES 2`, `3 LITRES 450 CHANGES 5`

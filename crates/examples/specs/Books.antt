@@ -1,7 +1,7 @@
 -- Sums of 01 on reading, computed from the definition.
-use Rattle.std.specs.Prelude.{ℕ, ◌≡◌, refl, List, [], ◌∷◌, ◌++◌}
+use Rattle.std.specs.Prelude.{ℕ, ◌≡◌, refl, List, [], ◌∷◌, ◌++◌, None}
 use Rattle.book.specs.declared.Refusal.TheVariants.{Truncated, Value}
-use Rattle.book.specs.Book.{Book, all_paths, are_vertices}
+use Rattle.book.specs.Book.{RuleSet, Book, all_paths, are_vertices}
 use Rattle.book.specs.Reading.{accepted, refused, reading, fields, add_path}
 
 -- Book A of 01
@@ -20,6 +20,10 @@ bytes_a =
     ∷ 0x04 ∷ 0x00 ∷ 0x03 ∷ 0x00 ∷ 0x02 ∷ 0x03
     ∷ []
 
+-- A rule set that needs these marks, on any date.
+abbrev pub needing : ℕ → List (List ℕ) → RuleSet
+needing flags paths = record { needs = record { flags = flags; window = None }; paths = paths }
+
 abbrev pub book_a : Book
 book_a =
     record {
@@ -33,8 +37,8 @@ book_a =
           ∷ record { tail = 1; head = 3; weight = 400 }
           ∷ [];
       sets =
-          record { flags = 1; paths = (0 ∷ 1 ∷ 2 ∷ 3 ∷ []) ∷ [] }
-          ∷ record { flags = 2; paths = (0 ∷ 2 ∷ 3 ∷ []) ∷ [] }
+          needing 1 ((0 ∷ 1 ∷ 2 ∷ 3 ∷ []) ∷ [])
+          ∷ needing 2 ((0 ∷ 2 ∷ 3 ∷ []) ∷ [])
           ∷ [];
     }
 
@@ -51,7 +55,7 @@ book_stutter =
     record {
       count = 4;
       arcs = book_a.arcs;
-      sets = book_a.sets ++ (record { flags = 0; paths = (1 ∷ 1 ∷ []) ∷ [] } ∷ []);
+      sets = book_a.sets ++ (needing 0 ((1 ∷ 1 ∷ []) ∷ []) ∷ []);
     }
 
 pub book_stutter_lem : reading bytes_stutter ≡ accepted book_stutter

@@ -1,7 +1,7 @@
 -- The sums of 02, order 2: runs that come back to a grade, on book A under marks 3, start 0, end 3. What the operations answer is from the bytes of a book,
--- and for all lent areas that are long enough.
+-- on every date, and for all lent areas that are long enough.
 use Rattle.std.specs.Prelude.{ℕ, ◌≤◌, ◌≡◌, refl, List, [], ◌∷◌, ◌++◌, length, drop, Ok}
-use Rattle.std.proofs.Common.{sym, ap, subst, inl, arith, length-append}
+use Rattle.std.proofs.Common.{sym, ap, inl, arith, length-append}
 use mathlib.Core.List.Memᴰ
 use Rattle.std.proofs.Math.Option.{none, some}
 use Rattle.std.proofs.lemmas.List.{length-replicate}
@@ -24,14 +24,14 @@ use Rattle.trial_rules.specs.Trials.{failed, ForbiddenSet, refusal, is_forbidden
 use Rattle.trial_rules.proofs.Tests.{is_forbidden_set→, set-paths, set-once}
 use Rattle.series.specs.Reports.{reports_in}
 use Rattle.text.specs.Text.{digits, followed}
-use Rattle.answer.specs.Answer.{AnsweredOf}
 use Rattle.examples.specs.GraphA.{forbidden_a, best_a}
+use Rattle.examples.specs.Batches.{marks, ForDates, ForDateBytes}
 use Rattle.examples.specs.Books.{bytes_a, book_a, book-A, bytes_stutter, book_stutter, book_stutter_lem}
 use Rattle.examples.specs.Walks.{Plan, marks_3, named-121}
 use Rattle.examples.specs.Plans.{Only, under, walk-given}
 use Rattle.examples.specs.Sums.{ForLent, Plans, Stands, Leads, Replays, begun-3, after_one, binds, plans, graph_a, taken-one, run-one, replays}
 use Rattle.examples.specs.Trials.{at-start}
-use Rattle.examples.specs.Printed.{Prints, prints, listing}
+use Rattle.examples.specs.Printed.{Prints, prints-found, listing}
 
 -- Planning from 0 to 3 in book A, under a runs area with the runs F and any bytes after its entries, answers r and nothing else, with w in the front of
 -- the line-up area and the bytes after it as lent.
@@ -49,7 +49,7 @@ after-121 = after_one (1 ∷ 2 ∷ 1 ∷ [])
 pub record Sums : Type 0 where
   -- From marks 3, named 1 2 1: then 0 1 3, 500; known 3, failed 1. By the single operation, and as a list of reports.
   pub named-121 : Leads begun-3 (failed (1 ∷ 2 ∷ 1 ∷ [])) after-121
-  pub list_121 : Replays 3 (1 ∷ 3 ∷ 1 ∷ 2 ∷ 1 ∷ []) after-121
+  pub list_121 : ForDates (λ date. Replays (marks 3 date) (1 ∷ 3 ∷ 1 ∷ 2 ∷ 1 ∷ []) after-121)
   -- Planning under a runs area with these three: 0 1 3, 500, 2 changeovers. 0 2 1 2 3 avoids them too and loses 500, in 4 changeovers.
   pub under-121 : PlansUnder runs-121 (walked 500 2) (0 ∷ 1 ∷ 3 ∷ [])
   pub as_light : Feasible graph_a runs-121 0 3 (0 ∷ 2 ∷ 1 ∷ 2 ∷ 3 ∷ []) × (weight_of graph_a (0 ∷ 2 ∷ 1 ∷ 2 ∷ 3 ∷ []) ≡ 500) × (hops (0 ∷ 2 ∷ 1 ∷ 2 ∷ 3 ∷ []) ≡ 4)
@@ -57,9 +57,9 @@ pub record Sums : Type 0 where
   -- without it, 0 1 2 1 2 3, 450, 5 changeovers, and `plan` prints it.
   pub read-A : read_as (reading bytes_a) ≡ Ok (record { vertices = 4; arcs = 6; sets = 2; paths = 2 })
   pub read-11 : read_as (reading bytes_stutter) ≡ Ok (record { vertices = 4; arcs = 6; sets = 3; paths = 3 })
-  pub bound-11 : (paths : List ℕ) → area_size ≤ length paths → bound_as (binding bytes_stutter 3 paths) ≡ Ok 3
-  pub plan-11 : Plans bytes_stutter 3 0 3 (walked 450 5) (0 ∷ 1 ∷ 2 ∷ 1 ∷ 2 ∷ 3 ∷ [])
-  pub printed_11 : Prints (0 ∷ 3 ∷ 0 ∷ 3 ∷ bytes_stutter) listing
+  pub bound-11 : ForDates (λ date. (paths : List ℕ) → area_size ≤ length paths → bound_as (binding bytes_stutter (marks 3 date) paths) ≡ Ok 3)
+  pub plan-11 : ForDates (λ date. Plans bytes_stutter (marks 3 date) 0 3 (walked 450 5) (0 ∷ 1 ∷ 2 ∷ 1 ∷ 2 ∷ 3 ∷ []))
+  pub printed_11 : ForDateBytes (λ date. Prints ((0 ∷ 3 ∷ 0 ∷ 3 ∷ []) ++ (date ++ bytes_stutter)) listing)
   -- Named at the start of marks 3, where 0 1 2 1 2 3 stands: 2 1 2 and 2 1 2 3 are taken; 3 4, whose 4 is no grade, is refused under 12.
   pub takes-212 : ForLent (λ paths walk. refusal graph_a (begun-3 paths walk) (failed (2 ∷ 1 ∷ 2 ∷ [])) ≡ none)
   pub takes-2123 : ForLent (λ paths walk. refusal graph_a (begun-3 paths walk) (failed (2 ∷ 1 ∷ 2 ∷ 3 ∷ [])) ≡ none)
@@ -84,14 +84,14 @@ unfolding is_forbidden_set once is_path are_vertices reports_in is_feasible all_
 sums =
     record {
       named-121 = λ paths walk fits long. (taken-one paths walk fits long (1 ∷ 2 ∷ 1 ∷ []) tt refl named-121.best).left;
-      list_121 = λ paths walk fits long. replays paths walk fits long (1 ∷ 3 ∷ 1 ∷ 2 ∷ 1 ∷ []) (after-121 paths walk) (run-one paths walk fits long (1 ∷ 2 ∷ 1 ∷ []) tt refl named-121.best);
+      list_121 = λ date valid paths walk fits long. replays paths walk fits long date valid (1 ∷ 3 ∷ 1 ∷ 2 ∷ 1 ∷ []) (after-121 paths walk) (run-one paths walk fits long (1 ∷ 2 ∷ 1 ∷ []) tt refl named-121.best date);
       under-121 = plans-under runs-121 (is_forbidden_set→ 4 runs-121 tt) (0 ∷ 1 ∷ 3 ∷ []) 500 2 named-121;
       as_light = (is_feasible→Feasible graph_a runs-121 0 3 (0 ∷ 2 ∷ 1 ∷ 2 ∷ 3 ∷ []) tt, refl, refl);
       read-A = ap read_as book-A;
       read-11 = ap read_as book_stutter_lem;
-      bound-11 = λ paths fits. ap bound_as (binds bytes_stutter book_stutter book_stutter_lem 3 paths fits);
-      plan-11 = plans bytes_stutter book_stutter book_stutter_lem 3 0 3 (walked 450 5) best_a (walk-given bytes_stutter book_stutter book_stutter_lem 3 0 3 refl refl best_a 450 5 best-11);
-      printed_11 = prints (0 ∷ 3 ∷ 0 ∷ 3 ∷ bytes_stutter) listing (subst (λ x. AnsweredOf x 3 0 3 listing) (sym book_stutter_lem) (inl (best_a, best-11.best, refl)));
+      bound-11 = λ date valid paths fits. ap bound_as (binds bytes_stutter book_stutter book_stutter_lem (marks 3 date) valid paths fits);
+      plan-11 = λ date. plans bytes_stutter book_stutter book_stutter_lem (marks 3 date) 0 3 (walked 450 5) best_a (walk-given bytes_stutter book_stutter book_stutter_lem (marks 3 date) 0 3 refl refl best_a 450 5 best-11);
+      printed_11 = λ day month high low valid. prints-found bytes_stutter book_stutter book_stutter_lem 0 3 0 3 refl refl day month high low valid listing (inl (best_a, best-11.best, refl));
       takes-212 = λ paths walk fits long. at-start paths walk fits long (2 ∷ 1 ∷ 2 ∷ []);
       takes-2123 = λ paths walk fits long. at-start paths walk fits long (2 ∷ 1 ∷ 2 ∷ 3 ∷ []);
       refuses-34 = λ paths walk fits long. at-start paths walk fits long (3 ∷ 4 ∷ []);

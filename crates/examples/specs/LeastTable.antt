@@ -5,7 +5,7 @@ use mathlib.Core.List.Memᴰ
 use Rattle.std.proofs.Math.Logic.{by_cases}
 use Rattle.std.proofs.Math.Decide.{dec_lt, ℕ_discrete}
 use Rattle.std.proofs.Math.ListN.{get_or-eq_default}
-use Rattle.distances.specs.Edge.{Edge, ◌∈◌, cost}
+use Rattle.distances.specs.Edge.{Edge, ◌∈◌}
 use Rattle.distances.specs.Table.{at, Attained, Least, settled}
 use Rattle.lists.specs.Test.{T_and}
 use Rattle.std.proofs.Math.Facts.{or_yes}

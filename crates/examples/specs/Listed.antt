@@ -3,6 +3,8 @@ use Rattle.std.specs.Prelude.{ℕ, ◌≤◌, ◌≡◌, refl, List, [], ◌∷�
 use Rattle.std.proofs.Common.{sym, subst}
 use mathlib.Core.List.Permᴰ
 use Rattle.book.specs.declared.Refusal.TheVariants.{Value, Repeated}
+use Rattle.dates.specs.declared.Date.{Date}
+use Rattle.examples.specs.Batches.{marks}
 use Rattle.examples.specs.Books.{bytes_a, book_a, book-A}
 use Rattle.book.specs.Reading.{accepted, refused}
 use Rattle.rules.specs.Operations.{Binding, binding, area_after}
@@ -24,13 +26,13 @@ with_last a = arc 0 1 100 ∷ arc 1 2 100 ∷ arc 2 3 100 ∷ arc 0 2 250 ∷ ar
 abbrev pub arcs_a : List Arc
 arcs_a = with_last (arc 1 3 400)
 
--- The sum of 01 with marks 3, from the list: under the runs that book A binds, for every area of 1,600 bytes or more.
-pub list_A : (area : List ℕ) (F : List (List ℕ)) → binding bytes_a 3 area ≡ Binding.bound F → (old : List ℕ) → longest ≤ length old
-    → Only (PlanningOf (listing 4 arcs_a) (area_after (binding bytes_a 3 area) area) (length F) 0 3 old) (walked 450 5) ((0 ∷ 1 ∷ 2 ∷ 1 ∷ 2 ∷ 3 ∷ []) ++ drop 6 old)
-list_A area F is old long =
-    let after = area_after (binding bytes_a 3 area) area in
+-- The sum of 01 with marks 3, from the list: under the runs that book A binds, on any date, for every area of 1,600 bytes or more.
+pub list_A : (date : Date) (area : List ℕ) (F : List (List ℕ)) → binding bytes_a (marks 3 date) area ≡ Binding.bound F → (old : List ℕ) → longest ≤ length old
+    → Only (PlanningOf (listing 4 arcs_a) (area_after (binding bytes_a (marks 3 date) area) area) (length F) 0 3 old) (walked 450 5) ((0 ∷ 1 ∷ 2 ∷ 1 ∷ 2 ∷ 3 ∷ []) ++ drop 6 old)
+list_A date area F is old long =
+    let after = area_after (binding bytes_a (marks 3 date) area) area in
     let new = (0 ∷ 1 ∷ 2 ∷ 1 ∷ 2 ∷ 3 ∷ []) ++ drop 6 old in
-    let given = sums.marks_3 area F is old long in
+    let given = sums.marks_3 date area F is old long in
     record {
       meets =
           subst (λ x. PlanningOf x after (length F) 0 3 old (walked 450 5) new) (sym (listed-book bytes_a book_a book-A arcs_a (Permᴰ.refl book_a.arcs)))

@@ -1,8 +1,11 @@
--- Sums of 01 on binding and checking, computed from the definitions: book A.
+-- Sums of 01 on binding, on every date, and on checking, computed from the definitions: book A.
 use Rattle.std.specs.Prelude.{ℕ, List, [], ◌∷◌, ◌++◌, ◌≡◌, refl, set, replicate, Some, None, Ok, Err}
+use Rattle.std.proofs.Common.{ap, lit≤}
 use Rattle.book.specs.declared.Refusal.TheVariants.{Invalid, NotAWalk}
 use Rattle.book.specs.Book.{all_paths, is_path, are_vertices}
-use Rattle.examples.specs.Books.{bytes_a}
+use Rattle.examples.specs.Batches.{marks, ForDates}
+use Rattle.examples.specs.Books.{bytes_a, book_a, book-A}
+use Rattle.examples.specs.Sums.{binds}
 use Rattle.book.specs.Reading.{reading, fields, add_path}
 use Rattle.book.specs.Tables.{entries}
 use Rattle.rules.specs.Binding.{covers, applied, once}
@@ -15,30 +18,42 @@ use Rattle.walk_check.specs.Checking.{checking}
 abbrev lent : List ℕ
 lent = replicate 2304 7 ++ (9 ∷ [])
 
--- What binding answers to a batch, and the bytes that it leaves, after them those of `rest` zeros and the byte.
+-- What binding answers to these marks, on every date, and the bytes that it leaves, after them those of `rest` zeros and the byte.
 abbrev Binds : ℕ → ℕ → List ℕ → ℕ → Type 0
-Binds flags count bytes rest =
-    (bound_as (binding bytes_a flags lent) ≡ Ok count) × (area_after (binding bytes_a flags lent) lent ≡ bytes ++ (replicate rest 0 ++ (9 ∷ [])))
+Binds n count bytes rest =
+    ForDates (λ date. (bound_as (binding bytes_a (marks n date) lent) ≡ Ok count)
+    × (area_after (binding bytes_a (marks n date) lent) lent ≡ bytes ++ (replicate rest 0 ++ (9 ∷ []))))
 
 pub marks_0 : Binds 0 0 [] 2304
-unfolding reading fields is_path are_vertices add_path all_paths entries covers applied
-marks_0 = (refl, refl)
+unfolding is_path are_vertices entries covers applied
+marks_0 date valid =
+    let is = binds bytes_a book_a book-A (marks 0 date) valid lent (lit≤ tt) in
+    (ap bound_as is, ap (λ x. area_after x lent) is)
 
 pub marks_1 : Binds 1 1 (4 ∷ 0 ∷ 1 ∷ 2 ∷ 3 ∷ []) 2299
-unfolding reading fields is_path are_vertices add_path all_paths entries covers applied
-marks_1 = (refl, refl)
+unfolding is_path are_vertices entries covers applied
+marks_1 date valid =
+    let is = binds bytes_a book_a book-A (marks 1 date) valid lent (lit≤ tt) in
+    (ap bound_as is, ap (λ x. area_after x lent) is)
 
 pub marks_2 : Binds 2 1 (3 ∷ 0 ∷ 2 ∷ 3 ∷ []) 2300
-unfolding reading fields is_path are_vertices add_path all_paths entries covers applied
-marks_2 = (refl, refl)
+unfolding is_path are_vertices entries covers applied
+marks_2 date valid =
+    let is = binds bytes_a book_a book-A (marks 2 date) valid lent (lit≤ tt) in
+    (ap bound_as is, ap (λ x. area_after x lent) is)
 
-pub marks_3 : Binds 3 2 (4 ∷ 0 ∷ 1 ∷ 2 ∷ 3 ∷ 0 ∷ 0 ∷ 0 ∷ 0 ∷ 3 ∷ 0 ∷ 2 ∷ 3 ∷ []) 2291
-unfolding reading fields is_path are_vertices add_path all_paths entries covers applied
-marks_3 = (refl, refl)
+abbrev runs-3 : List ℕ
+runs-3 = 4 ∷ 0 ∷ 1 ∷ 2 ∷ 3 ∷ 0 ∷ 0 ∷ 0 ∷ 0 ∷ 3 ∷ 0 ∷ 2 ∷ 3 ∷ []
 
--- The area of marks 3, and what the check says of line-ups with it.
+pub marks_3 : Binds 3 2 runs-3 2291
+unfolding is_path are_vertices entries covers applied
+marks_3 date valid =
+    let is = binds bytes_a book_a book-A (marks 3 date) valid lent (lit≤ tt) in
+    (ap bound_as is, ap (λ x. area_after x lent) is)
+
+-- The area that marks 3 leave, and what the check says of line-ups with it.
 abbrev area-3 : List ℕ
-area-3 = area_after (binding bytes_a 3 lent) lent
+area-3 = runs-3 ++ (replicate 2291 0 ++ (9 ∷ []))
 
 pub clear : checking bytes_a area-3 2 (0 ∷ 1 ∷ 2 ∷ 1 ∷ 2 ∷ 3 ∷ []) ≡ Ok None
 unfolding reading fields is_path are_vertices add_path all_paths entries covers applied once blocks first_from check_from

@@ -1,16 +1,19 @@
 -- Examples on book A under marks 3, start 0, end 3, which 01 does not star: the oracle theorem speaks of its trials, and reports that are
--- refused. For all lent areas that are long enough.
+-- refused. On every date, and for all lent areas that are long enough.
 use Rattle.std.specs.Prelude.{ℕ, ◌≤◌, ◌≡◌, List, [], ◌∷◌, length}
 use Rattle.std.proofs.Math.Path.{refl, subst}
 use Rattle.std.proofs.Common.{sym}
 use mathlib.Core.List.Memᴰ
 use Rattle.std.proofs.Math.Option.{some}
 use native.Mathlib.Omega.{arith}
+use Rattle.dates.specs.declared.Date.{Date}
+use Rattle.dates.specs.Calendar.{IsDate}
 use Rattle.walks.proofs.Avoid.{occurs→Occurs}
 use Rattle.walks.specs.Feasible.{is_feasible}
 use Rattle.book.specs.declared.Refusal.TheVariants.{Ended, NotStanding}
 use Rattle.book.specs.Refusal.{refusal_by}
 use Rattle.book.specs.Book.{is_path, are_vertices}
+use Rattle.examples.specs.Batches.{marks}
 use Rattle.examples.specs.Books.{book_a}
 use Rattle.rules.specs.Binding.{covers, applied, once}
 use Rattle.limits.specs.Limits.{area_size, longest}
@@ -27,25 +30,26 @@ abbrev oracles : List (List ℕ)
 oracles = (1 ∷ 2 ∷ 3 ∷ []) ∷ (1 ∷ 3 ∷ []) ∷ []
 
 module _ (paths walk : List ℕ) (fits : area_size ≤ length paths) (long : longest ≤ length walk) where
-  abbrev pub trials_a : Begin
-  trials_a = trials_of book_a well-A 3 0 3 paths walk (opens paths walk fits long)
+  module _ (date : Date) (valid : IsDate date) where
+    abbrev pub trials_a : Begin
+    trials_a = trials_of book_a well-A (marks 3 date) 0 3 paths walk (opens paths walk fits long date valid)
 
-  -- The oracle with these two paths is true, in reports that name them.
-  pub oracle-set : OracleSet trials_a oracles
-  unfolding covers applied is_forbidden_set once is_path are_vertices lacking
-  oracle-set = record { taken = (is_forbidden_set→ 4 oracles tt).taken; few = omega arith }
+    -- The oracle with these two paths is true, in reports that name them.
+    pub oracle-set : OracleSet trials_a oracles
+    unfolding covers applied is_forbidden_set once is_path are_vertices lacking
+    oracle-set = record { taken = (is_forbidden_set→ 4 oracles tt).taken; few = omega arith }
 
-  pub oracle-true : TrueOracle trials_a oracles (failed (1 ∷ 2 ∷ 3 ∷ []) ∷ failed (1 ∷ 3 ∷ []) ∷ [])
-  unfolding run EachAccepted
-  oracle-true = (
-    λ e. subst (λ (σ : State). TrueTo oracles σ (failed (1 ∷ 2 ∷ 3 ∷ []))) (sym (first-is paths walk fits long))
-        (Memᴰ.head refl, occurs→Occurs (1 ∷ 2 ∷ 3 ∷ []) (0 ∷ 1 ∷ 2 ∷ 1 ∷ 2 ∷ 3 ∷ []) tt),
-    (
-      λ e. subst (λ (σ : State). TrueTo oracles σ (failed (1 ∷ 3 ∷ []))) (sym (run-123 paths walk fits long))
-          (Memᴰ.tail (Memᴰ.head refl), occurs→Occurs (1 ∷ 3 ∷ []) (0 ∷ 1 ∷ 3 ∷ []) tt),
-      tt,
-    ),
-  )
+    pub oracle-true : TrueOracle trials_a oracles (failed (1 ∷ 2 ∷ 3 ∷ []) ∷ failed (1 ∷ 3 ∷ []) ∷ [])
+    unfolding run EachAccepted
+    oracle-true = (
+      λ e. subst (λ (σ : State). TrueTo oracles σ (failed (1 ∷ 2 ∷ 3 ∷ []))) (sym (first-is paths walk fits long date))
+          (Memᴰ.head refl, occurs→Occurs (1 ∷ 2 ∷ 3 ∷ []) (0 ∷ 1 ∷ 2 ∷ 1 ∷ 2 ∷ 3 ∷ []) tt),
+      (
+        λ e. subst (λ (σ : State). TrueTo oracles σ (failed (1 ∷ 3 ∷ []))) (sym (run-123 paths walk fits long date))
+            (Memᴰ.tail (Memᴰ.head refl), occurs→Occurs (1 ∷ 3 ∷ []) (0 ∷ 1 ∷ 3 ∷ []) tt),
+        tt,
+      ),
+    )
 
   -- Refused at the start: a path that names a vertex twice in succession, one of one vertex, one that does not stand in the walk, one that is
   -- known already. Refused at the end: a passed report.

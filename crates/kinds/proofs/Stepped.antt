@@ -6,6 +6,7 @@ use Rattle.std.proofs.Common.{sym, ap₂, ◌∙◌, drop-drop}
 use Rattle.book.specs.declared.Refusal.{Refusal}
 use Rattle.book.specs.Book.{graph}
 use Rattle.book.specs.Reading.{Reading, accepted, refused, reading}
+use Rattle.rules.specs.declared.Batch.{Batch}
 use Rattle.trial_record.specs.declared.Record.{Record}
 use Rattle.trials.specs.declared.Rejected.{Rejected}
 use Rattle.series.specs.declared.Made.{Made}
@@ -51,27 +52,27 @@ module _ (s : List ℕ) (l : Leaves Record) (reports : List ℕ) (at : ℕ) (pat
       go false u e = ap (λ (y : Leaves _). answering l.answer y.paths y.walk) e ∙ ap (reports_on s l) (sym (reports_none rest u))
 
 -- Begin, and then the reports one by one, are a replay.
-pub stepped : (s : List ℕ) (flags start end : ℕ) (reports paths walk : List ℕ) (first last : Record) (paths₁ walk₁ paths₂ walk₂ : List ℕ)
-    → answering (Ok first) paths₁ walk₁ ≡ beginning s flags start end paths walk
+pub stepped : (s : List ℕ) (batch : Batch) (start end : ℕ) (reports paths walk : List ℕ) (first last : Record) (paths₁ walk₁ paths₂ walk₂ : List ℕ)
+    → answering (Ok first) paths₁ walk₁ ≡ beginning s batch start end paths walk
     → answering last paths₂ walk₂ ≡ reports_on s (answering first paths₁ walk₁) (reports_of reports)
-    → answering (Ok last) paths₂ walk₂ ≡ replaying s flags start end reports paths walk
-stepped s flags start end reports paths walk first last paths₁ walk₁ paths₂ walk₂ e after = go (reading s) refl e
+    → answering (Ok last) paths₂ walk₂ ≡ replaying s batch start end reports paths walk
+stepped s batch start end reports paths walk first last paths₁ walk₁ paths₂ walk₂ e after = go (reading s) refl e
   where
-    go : (y : Reading) → reading s ≡ y → answering (Ok first) paths₁ walk₁ ≡ beginning_of y flags start end paths walk
-        → answering (Ok last) paths₂ walk₂ ≡ replaying s flags start end reports paths walk
+    go : (y : Reading) → reading s ≡ y → answering (Ok first) paths₁ walk₁ ≡ beginning_of y batch start end paths walk
+        → answering (Ok last) paths₂ walk₂ ≡ replaying s batch start end reports paths walk
     go (refused z) read e = absurd (let w : Ok first ≡ Err z = ap (λ (y : Leaves (Result Record Refusal)). y.answer) e in cc)
-    go (accepted b) read e = on (begin_refusal (graph b) start end paths walk) refl e
+    go (accepted b) read e = on (begin_refusal batch (graph b) start end paths walk) refl e
       where
-        on : (o : Option Refusal) → begin_refusal (graph b) start end paths walk ≡ o
-            → answering (Ok first) paths₁ walk₁ ≡ begun_as o (first_state b flags start end paths walk) paths walk
-            → answering (Ok last) paths₂ walk₂ ≡ replaying s flags start end reports paths walk
+        on : (o : Option Refusal) → begin_refusal batch (graph b) start end paths walk ≡ o
+            → answering (Ok first) paths₁ walk₁ ≡ begun_as o (first_state b batch start end paths walk) paths walk
+            → answering (Ok last) paths₂ walk₂ ≡ replaying s batch start end reports paths walk
         on (some z) ok e = absurd (let w : Ok first ≡ Err z = ap (λ (y : Leaves (Result Record Refusal)). y.answer) e in cc)
         on none ok e =
-            let σ = first_state b flags start end paths walk in
+            let σ = first_state b batch start end paths walk in
             let same : Ok first ≡ Ok σ.rec = ap (λ (y : Leaves (Result Record Refusal)). y.answer) e in
             let first-is : first ≡ σ.rec = cc in
             ap (λ (x : Leaves Record). answering (Ok x.answer) x.paths x.walk)
             (after
             ∙ ap₂ (λ (x : Record) (y : Leaves (Result Record Refusal)). reports_on s (answering x y.paths y.walk) (reports_of reports)) first-is e
-            ∙ reports_leave s b read flags start end paths walk ok (reports_of reports))
-            ∙ sym (replay_leaves s b read flags start end paths walk ok reports)
+            ∙ reports_leave s b read batch start end paths walk ok (reports_of reports))
+            ∙ sym (replay_leaves s b read batch start end paths walk ok reports)

@@ -1,23 +1,29 @@
-// The case of a check: the flags and the walk's length in two bytes each (high byte first), the walk, and the book.
+// The case of a check: marks in two bytes (high byte first), day, month, year in two, the walk's length in two, the walk, and the book.
+ghost use Rattle.std.specs.Prelude.{◌≡◌};
+ghost use Rattle.kinds.specs.Inputs.{check_input};
+
 use book::Refusal;
 use limits::AREA;
+use rules::Batch;
 use walk_check::Occurrence;
 
 pub fn check_case(rt: &impl Print, input: &[u8]) {
     checked(rt, check(input));
 }
 
-fn check(input: &[u8]) -> Result<Option<Occurrence>, Refusal> {
-    let [f1, f0, n1, n0, rest @ ..] = input else {
+fn check(input: &[u8]) -> Result<Option<Occurrence>, Refusal>
+    ensures { result ≡ check_input input.now }
+{
+    let [m1, m0, day, month, y1, y0, n1, n0, rest @ ..] = input else {
         return Err(Refusal::Truncated(0));
     };
-    let flags = u16::from_be_bytes([*f1, *f0]);
+    let batch = Batch::from_bytes([*m1, *m0, *day, *month, *y1, *y0]);
     let length = u16::from_be_bytes([*n1, *n0]);
     let Some((walk, bytes)) = rest.split_at_checked(usize::from(length)) else {
         return Err(Refusal::Truncated(0));
     };
     let mut area = [0; AREA];
-    let count = rules::bind(bytes, flags, &mut area)?;
+    let count = rules::bind(bytes, batch, &mut area)?;
     walk_check::check(bytes, &area, count, walk)
 }
 

@@ -1,4 +1,4 @@
-// The case of a plan: the flags in two bytes (high byte first), start, end, and the book.
+// The case of a plan: the input of the program `plan`.
 pub fn plan_case(rt: &impl Print, input: &[u8]) {
     rt.write_all(&answer::answer(input)).unwrap_or(());
 }

@@ -1,5 +1,6 @@
 // The case of a book: what it means, or its refusal.
-use book::{Counts, Loaded};
+use book::{Counts, Loaded, Needs};
+use dates::Window;
 use limits::{ENTRY, MOST_VERTICES, NO_ARC};
 use std::fmt;
 
@@ -19,9 +20,23 @@ fn write_book(rt: &impl Print, book: &Loaded) {
     } = book.counts;
     println!(rt; "GRADES {vertices} CHANGEOVERS {arcs} SHEETS {sets} RUNS {paths}").unwrap_or(());
     write_arcs(rt, book);
-    for (set, flags) in book.flags.iter().take(sets).enumerate() {
-        println!(rt; "SHEET {flags}").unwrap_or(());
+    for (set, needs) in book.needs.iter().take(sets).enumerate() {
+        write_needs(rt, *needs);
         write_paths_of(rt, set, book);
+    }
+}
+
+fn write_needs(rt: &impl Print, needs: Needs) {
+    let flags = needs.flags;
+    match needs.window {
+        None => println!(rt; "SHEET {flags}").unwrap_or(()),
+        Some(Window { first, last }) => {
+            println!(rt;
+                "SHEET {flags} WINDOW {} {} {} {}",
+                first.day, first.month, last.day, last.month
+            )
+            .unwrap_or(());
+        }
     }
 }
 

@@ -1,5 +1,7 @@
-// The case of a replay: the flags in two bytes (high byte first), start, end, the book's length in four, the book, and the reports.
-ghost use Rattle.std.specs.Prelude.{◌≡◌};
+// The case of a replay: marks in two bytes (high byte first), start, end, day, month, year in two, the book's length in four, the book, and the
+// reports.
+ghost use Rattle.std.specs.Prelude.{◌≡◌, ◌<◌, length, MatchOption};
+ghost use Rattle.kinds.specs.Inputs.{IsCase, reports_from};
 ghost use Rattle.trials.specs.Operations.{answering};
 ghost use Rattle.series.specs.Making.{replaying};
 ghost use Rattle.series.specs.Reports.{reports_of};
@@ -8,14 +10,15 @@ ghost use Rattle.series.specs.Whole.{reports_on};
 use book::Refusal;
 use cases::{Walk, same_answer};
 use limits::{AREA, LONGEST};
+use rules::Batch;
 use std::fmt;
 use trial_record::Record;
 use trials::Rejected;
 
 // A batch with its book, and the reports of its trials.
 #[derive(Clone, Copy)]
-struct Batch<'a> {
-    flags: u16,
+struct Case<'a> {
+    batch: Batch,
     start: u8,
     end: u8,
     bytes: &'a [u8],
@@ -24,20 +27,37 @@ struct Batch<'a> {
 
 // Prints what begin and each report leave.
 pub fn replay_case(rt: &impl Print, input: &[u8]) {
-    match batch_of(input) {
-        Some(batch) => replay(rt, batch),
+    match case_of(input) {
+        Some(case) => replay(rt, case),
         None => println!(rt; "{}", Refusal::Truncated(0)).unwrap_or(()),
     }
 }
 
-fn batch_of(input: &[u8]) -> Option<Batch<'_>> {
-    let [f1, f0, start, end, n3, n2, n1, n0, rest @ ..] = input else {
+fn case_of(input: &[u8]) -> Option<Case<'_>>
+    ensures { MatchOption result (length input.now < reports_from input.now) (λ case. IsCase input.now case.batch case.start case.end case.bytes.now case.reports.now) }
+{
+    let [
+        m1,
+        m0,
+        start,
+        end,
+        day,
+        month,
+        y1,
+        y0,
+        n3,
+        n2,
+        n1,
+        n0,
+        rest @ ..,
+    ] = input
+    else {
         return None;
     };
     let length = u32::from_be_bytes([*n3, *n2, *n1, *n0]);
     let (bytes, reports) = rest.split_at_checked(length as usize)?;
-    Some(Batch {
-        flags: u16::from_be_bytes([*f1, *f0]),
+    Some(Case {
+        batch: Batch::from_bytes([*m1, *m0, *day, *month, *y1, *y0]),
         start: *start,
         end: *end,
         bytes,
@@ -46,18 +66,18 @@ fn batch_of(input: &[u8]) -> Option<Batch<'_>> {
 }
 
 // Makes the reports one by one, and then the whole list anew: both are to leave the same. A line more where an answer or a byte differs.
-fn replay(rt: &impl Print, batch: Batch) {
+fn replay(rt: &impl Print, case: Case) {
     let mut paths = [0; AREA];
     let mut walk = [0; LONGEST];
-    let stepped = step(rt, batch, &mut paths, &mut walk);
+    let stepped = step(rt, case, &mut paths, &mut walk);
     let mut paths_anew = [0; AREA];
     let mut walk_anew = [0; LONGEST];
     let whole = series::replay(
-        batch.bytes,
-        batch.flags,
-        batch.start,
-        batch.end,
-        batch.reports,
+        case.bytes,
+        case.batch,
+        case.start,
+        case.end,
+        case.reports,
         &mut paths_anew,
         &mut walk_anew,
     );
@@ -67,20 +87,13 @@ fn replay(rt: &impl Print, batch: Batch) {
 }
 
 // Begins, makes each report, and prints what each leaves.
-fn step(rt: &impl Print, batch: Batch, paths: &mut [u8], walk: &mut [u8]) -> Result<Record, Refusal>
-    ensures { answering result paths.new walk.new ≡ replaying batch.entry.bytes.now batch.entry.flags batch.entry.start batch.entry.end batch.entry.reports.now paths.old walk.old }
+fn step(rt: &impl Print, case: Case, paths: &mut [u8], walk: &mut [u8]) -> Result<Record, Refusal>
+    ensures { answering result paths.new walk.new ≡ replaying case.entry.bytes.now case.entry.batch case.entry.start case.entry.end case.entry.reports.now paths.old walk.old }
 {
-    match trials::begin(
-        batch.bytes,
-        batch.flags,
-        batch.start,
-        batch.end,
-        paths,
-        walk,
-    ) {
+    match trials::begin(case.bytes, case.batch, case.start, case.end, paths, walk) {
         Ok(first) => {
             write_record(rt, first, walk);
-            Ok(make_all(rt, batch.bytes, first, batch.reports, paths, walk))
+            Ok(make_all(rt, case.bytes, first, case.reports, paths, walk))
         }
         Err(refusal) => {
             println!(rt; "{refusal}").unwrap_or(());

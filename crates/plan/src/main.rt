@@ -1,4 +1,4 @@
-// Plans the case on standard input: marks in two bytes (high byte first), start, end, and a book.
+// Plans the case on standard input: marks in two bytes (high byte first), start, end, day, month, year in two bytes, and a book.
 #![tactic(auto)]
 
 use arrayvec::ArrayVec;

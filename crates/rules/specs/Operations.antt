@@ -5,6 +5,8 @@ use Rattle.book.specs.declared.Refusal.{Refusal}
 use Rattle.book.specs.Refusal.{Test, test}
 use Rattle.book.specs.Book.{Book}
 use Rattle.book.specs.Reading.{Reading, reading, refusal_of, book_in}
+use Rattle.dates.specs.Dates.{is_date}
+use Rattle.rules.specs.declared.Batch.{Batch}
 use Rattle.rules.specs.Binding.{known}
 use Rattle.rules.specs.Area.{written}
 use Rattle.limits.specs.Limits.{area_size}
@@ -18,14 +20,18 @@ abbrev pub bound_unless : Option Refusal → List (List ℕ) → Binding
 bound_unless none F = bound F
 bound_unless (some r) F = refused r
 
-abbrev pub bind_tests : List ℕ → Book → List Test
-bind_tests area b = test 8 (leb area_size (length area)) ∷ []
+-- 02: 15 for a batch with a date that is none.
+abbrev pub date_test : Batch → Test
+date_test batch = test 15 (is_date batch.date)
 
-abbrev pub binding_of : Reading → ℕ → List ℕ → Binding
-binding_of r flags area = bound_unless (refusal_of r (bind_tests area)) (known flags (book_in r).sets)
+abbrev pub bind_tests : Batch → List ℕ → Book → List Test
+bind_tests batch area b = test 8 (leb area_size (length area)) ∷ date_test batch ∷ []
 
-abbrev pub binding : List ℕ → ℕ → List ℕ → Binding
-binding s flags area = binding_of (reading s) flags area
+abbrev pub binding_of : Reading → Batch → List ℕ → Binding
+binding_of r batch area = bound_unless (refusal_of r (bind_tests batch area)) (known batch (book_in r).sets)
+
+abbrev pub binding : List ℕ → Batch → List ℕ → Binding
+binding s batch area = binding_of (reading s) batch area
 
 -- what it answers
 abbrev pub bound_as : Binding → Result ℕ Refusal

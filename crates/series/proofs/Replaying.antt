@@ -8,6 +8,7 @@ use Rattle.states.specs.Chosen.{chosen}
 use Rattle.book.specs.declared.Refusal.{Refusal}
 use Rattle.book.specs.Book.{Book, graph}
 use Rattle.book.specs.Reading.{Reading, accepted, refused, reading}
+use Rattle.rules.specs.declared.Batch.{Batch}
 use Rattle.trial_record.specs.declared.Record.{Record}
 use Rattle.trials.specs.declared.Rejected.{Rejected}
 use Rattle.series.specs.declared.Made.{Made}
@@ -19,47 +20,47 @@ use Rattle.series.specs.Making.{made_if, making, replaying_of, replaying}
 use Rattle.trial_rules.proofs.Invariant.{Invariant, invariant_begin}
 use Rattle.series.specs.Whole.{leaves_of, report_on, report_leaves, after-keeps, opened, replay_leaves}
 
-module _ (s : List ℕ) (flags start end : ℕ) (reports paths₀ walk₀ : List ℕ) where
+module _ (s : List ℕ) (batch : Batch) (start end : ℕ) (reports paths₀ walk₀ : List ℕ) where
   -- A refused begin is a refused replay.
-  pub not-begun : (x : Refusal) (paths walk : List ℕ) → answering (Err x) paths walk ≡ beginning s flags start end paths₀ walk₀
-      → answering (Err x) paths walk ≡ replaying s flags start end reports paths₀ walk₀
+  pub not-begun : (x : Refusal) (paths walk : List ℕ) → answering (Err x) paths walk ≡ beginning s batch start end paths₀ walk₀
+      → answering (Err x) paths walk ≡ replaying s batch start end reports paths₀ walk₀
   not-begun x paths walk e = go (reading s) e
     where
-      go : (y : Reading) → answering (Err x) paths walk ≡ beginning_of y flags start end paths₀ walk₀
-          → answering (Err x) paths walk ≡ replaying_of y flags start end reports paths₀ walk₀
+      go : (y : Reading) → answering (Err x) paths walk ≡ beginning_of y batch start end paths₀ walk₀
+          → answering (Err x) paths walk ≡ replaying_of y batch start end reports paths₀ walk₀
       go (refused z) e = e
-      go (accepted b) e = on (begin_refusal (graph b) start end paths₀ walk₀) e
+      go (accepted b) e = on (begin_refusal batch (graph b) start end paths₀ walk₀) e
         where
-          on : (o : Option Refusal) → answering (Err x) paths walk ≡ begun_as o (first_state b flags start end paths₀ walk₀) paths₀ walk₀
-              → answering (Err x) paths walk ≡ begun_as o (run (graph b) (chosen (graph b)) (first_state b flags start end paths₀ walk₀) (reports_of reports)) paths₀ walk₀
-          on none e = absurd (let z : Err x ≡ Ok (first_state b flags start end paths₀ walk₀).rec = ap (λ (l : Leaves (Result Record Refusal)). l.answer) e in cc)
+          on : (o : Option Refusal) → answering (Err x) paths walk ≡ begun_as o (first_state b batch start end paths₀ walk₀) paths₀ walk₀
+              → answering (Err x) paths walk ≡ begun_as o (run (graph b) (chosen (graph b)) (first_state b batch start end paths₀ walk₀) (reports_of reports)) paths₀ walk₀
+          on none e = absurd (let z : Err x ≡ Ok (first_state b batch start end paths₀ walk₀).rec = ap (λ (l : Leaves (Result Record Refusal)). l.answer) e in cc)
           on (some z) e = e
 
   -- After some reports: the state of the trials, and that the reports from a place on lead to the end.
   pub record Replayed (l : Leaves Record) (at : ℕ) : Type 0 where
     book : Book
     read : reading s ≡ accepted book
-    begins : begin_refusal (graph book) start end paths₀ walk₀ ≡ none
+    begins : begin_refusal batch (graph book) start end paths₀ walk₀ ≡ none
     state : State
     done : List Report
-    keeps : Invariant (opened s book read flags start end paths₀ walk₀ begins) done state
+    keeps : Invariant (opened s book read batch start end paths₀ walk₀ begins) done state
     held : l ≡ leaves_of state
-    leads : run (graph book) (chosen (graph book)) state (reports_of (drop at reports)) ≡ state_after (opened s book read flags start end paths₀ walk₀ begins) (reports_of reports)
+    leads : run (graph book) (chosen (graph book)) state (reports_of (drop at reports)) ≡ state_after (opened s book read batch start end paths₀ walk₀ begins) (reports_of reports)
 
-  pub replayed-begin : (r : Record) (paths walk : List ℕ) → answering (Ok r) paths walk ≡ beginning s flags start end paths₀ walk₀
+  pub replayed-begin : (r : Record) (paths walk : List ℕ) → answering (Ok r) paths walk ≡ beginning s batch start end paths₀ walk₀
       → Replayed (answering r paths walk) 0
   replayed-begin r paths walk e = go (reading s) refl e
     where
-      go : (y : Reading) → reading s ≡ y → answering (Ok r) paths walk ≡ beginning_of y flags start end paths₀ walk₀ → Replayed (answering r paths walk) 0
+      go : (y : Reading) → reading s ≡ y → answering (Ok r) paths walk ≡ beginning_of y batch start end paths₀ walk₀ → Replayed (answering r paths walk) 0
       go (refused z) read e = absurd (let w : Ok r ≡ Err z = ap (λ (l : Leaves (Result Record Refusal)). l.answer) e in cc)
-      go (accepted b) read e = on (begin_refusal (graph b) start end paths₀ walk₀) refl e
+      go (accepted b) read e = on (begin_refusal batch (graph b) start end paths₀ walk₀) refl e
         where
-          on : (o : Option Refusal) → begin_refusal (graph b) start end paths₀ walk₀ ≡ o
-              → answering (Ok r) paths walk ≡ begun_as o (first_state b flags start end paths₀ walk₀) paths₀ walk₀
+          on : (o : Option Refusal) → begin_refusal batch (graph b) start end paths₀ walk₀ ≡ o
+              → answering (Ok r) paths walk ≡ begun_as o (first_state b batch start end paths₀ walk₀) paths₀ walk₀
               → Replayed (answering r paths walk) 0
           on (some z) begins e = absurd (let w : Ok r ≡ Err z = ap (λ (l : Leaves (Result Record Refusal)). l.answer) e in cc)
           on none begins e =
-              let σ = first_state b flags start end paths₀ walk₀ in
+              let σ = first_state b batch start end paths₀ walk₀ in
               let same : Ok r ≡ Ok σ.rec = ap (λ (l : Leaves (Result Record Refusal)). l.answer) e in
               let r-is : r ≡ σ.rec = cc in
               record {
@@ -68,7 +69,7 @@ module _ (s : List ℕ) (flags start end : ℕ) (reports paths₀ walk₀ : List
                 begins = begins;
                 state = σ;
                 done = [];
-                keeps = invariant_begin (opened s b read flags start end paths₀ walk₀ begins);
+                keeps = invariant_begin (opened s b read batch start end paths₀ walk₀ begins);
                 held = ap₂ (λ (x : Record) (l : Leaves (Result Record Refusal)). answering x l.paths l.walk) r-is e;
                 leads = refl;
               }
@@ -88,7 +89,7 @@ module _ (s : List ℕ) (flags start end : ℕ) (reports paths₀ walk₀ : List
     unfolding run
     replayed-step is =
         let ρ = report_in rest in
-        let kept = after-keeps (opened s b p.read flags start end paths₀ walk₀ p.begins) p.state ρ p.done p.keeps in
+        let kept = after-keeps (opened s b p.read batch start end paths₀ walk₀ p.begins) p.state ρ p.done p.keeps in
         record {
           book = b;
           read = p.read;
@@ -121,17 +122,17 @@ module _ (s : List ℕ) (flags start end : ℕ) (reports paths₀ walk₀ : List
 
     -- At the end of the list the replay is done.
     pub replayed-last : (paths walk : List ℕ) → answering None paths walk ≡ making s l.answer reports at l.paths l.walk
-        → answering (Ok l.answer) paths walk ≡ replaying s flags start end reports paths₀ walk₀
+        → answering (Ok l.answer) paths walk ≡ replaying s batch start end reports paths₀ walk₀
     unfolding run
     replayed-last paths walk e = go (is_report rest) refl e
       where
         go : (t : Bool) → is_report rest ≡ t
             → answering None paths walk ≡ made_if t (reporting s l.answer l.paths l.walk (report_in rest)) (at + size_of rest) l.paths l.walk
-            → answering (Ok l.answer) paths walk ≡ replaying s flags start end reports paths₀ walk₀
+            → answering (Ok l.answer) paths walk ≡ replaying s batch start end reports paths₀ walk₀
         go true u e = absurd (let z : None ≡ Some _ = ap (λ (y : Leaves _). y.answer) e in cc)
         go false u e =
-            let last : p.state ≡ state_after (opened s b p.read flags start end paths₀ walk₀ p.begins) (reports_of reports) =
+            let last : p.state ≡ state_after (opened s b p.read batch start end paths₀ walk₀ p.begins) (reports_of reports) =
             sym (ap (run g (chosen g) p.state) (reports_none rest u)) ∙ p.leads in
             ap (λ (y : Leaves _). answering (Ok l.answer) y.paths y.walk) e
             ∙ ap (λ (x : Leaves Record). answering (Ok x.answer) x.paths x.walk) (p.held ∙ ap leaves_of last)
-            ∙ sym (replay_leaves s b p.read flags start end paths₀ walk₀ p.begins reports)
+            ∙ sym (replay_leaves s b p.read batch start end paths₀ walk₀ p.begins reports)

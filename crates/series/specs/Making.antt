@@ -4,6 +4,7 @@ use Rattle.states.specs.Chosen.{chosen}
 use Rattle.book.specs.declared.Refusal.{Refusal}
 use Rattle.book.specs.Book.{graph}
 use Rattle.book.specs.Reading.{Reading, reading, refusal_of, book_in}
+use Rattle.rules.specs.declared.Batch.{Batch}
 use Rattle.trial_record.specs.declared.Record.{Record}
 use Rattle.trial_rules.specs.Trials.{begin_tests, run}
 use Rattle.trials.specs.declared.Rejected.{Rejected}
@@ -24,10 +25,10 @@ making s r reports at paths walk =
     made_if (is_report (drop at reports)) (reporting s r paths walk (report_in (drop at reports))) (at + size_of (drop at reports)) paths walk
 
 -- Begin and a list of reports.
-abbrev pub replaying_of : Reading → ℕ → ℕ → ℕ → List ℕ → List ℕ → List ℕ → Leaves (Result Record Refusal)
-replaying_of x flags start end reports paths walk =
-    begun_as (refusal_of x (λ b. begin_tests (graph b) start end paths walk))
-    (run (graph (book_in x)) (chosen (graph (book_in x))) (first_state (book_in x) flags start end paths walk) (reports_of reports)) paths walk
+abbrev pub replaying_of : Reading → Batch → ℕ → ℕ → List ℕ → List ℕ → List ℕ → Leaves (Result Record Refusal)
+replaying_of x batch start end reports paths walk =
+    begun_as (refusal_of x (λ b. begin_tests batch (graph b) start end paths walk))
+    (run (graph (book_in x)) (chosen (graph (book_in x))) (first_state (book_in x) batch start end paths walk) (reports_of reports)) paths walk
 
-abbrev pub replaying : List ℕ → ℕ → ℕ → ℕ → List ℕ → List ℕ → List ℕ → Leaves (Result Record Refusal)
-replaying s flags start end reports paths walk = replaying_of (reading s) flags start end reports paths walk
+abbrev pub replaying : List ℕ → Batch → ℕ → ℕ → List ℕ → List ℕ → List ℕ → Leaves (Result Record Refusal)
+replaying s batch start end reports paths walk = replaying_of (reading s) batch start end reports paths walk

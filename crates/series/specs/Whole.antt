@@ -9,6 +9,7 @@ use Rattle.book.specs.declared.Refusal.{Refusal}
 use Rattle.book.specs.Book.{Book, graph}
 use Rattle.book.proofs.BookLaws.{reading-is-book}
 use Rattle.book.specs.Reading.{accepted, reading}
+use Rattle.rules.specs.declared.Batch.{Batch}
 use Rattle.trial_record.specs.declared.Record.{Record}
 use Rattle.trials.specs.declared.Rejected.{Rejected}
 use Rattle.trial_rules.specs.Trials.{Report, State, path_area, begin_refusal, refusal, Valid, unless, step, after, run, Begin, begun, state_after, accepted_of}
@@ -64,13 +65,13 @@ module _ (s : List ℕ) (b : Book) (read : reading s ≡ accepted b) where
       go (some x) = refl
 
   -- An accepted begin on the book.
-  module _ (flags start end : ℕ) (paths walk : List ℕ) (ok : begin_refusal (graph b) start end paths walk ≡ none) where
+  module _ (batch : Batch) (start end : ℕ) (paths walk : List ℕ) (ok : begin_refusal batch (graph b) start end paths walk ≡ none) where
     abbrev pub opened : Begin
-    opened = trials_of b (reading-is-book s b read).well_formed flags start end paths walk ok
+    opened = trials_of b (reading-is-book s b read).well_formed batch start end paths walk ok
 
-    pub begin_leaves : beginning s flags start end paths walk ≡ answering (Ok (begun opened).rec) (path_area (begun opened)) (begun opened).area
+    pub begin_leaves : beginning s batch start end paths walk ≡ answering (Ok (begun opened).rec) (path_area (begun opened)) (begun opened).area
     begin_leaves =
-        ap (λ x. beginning_of x flags start end paths walk) read ∙ ap (λ o. begun_as o (begun opened) paths walk) ok
+        ap (λ x. beginning_of x batch start end paths walk) read ∙ ap (λ o. begun_as o (begun opened) paths walk) ok
 
     -- 01, 'Trials', of the operations: after every list of reports, refused ones included, the record and every byte of both areas are those
     -- that the three rules give.
@@ -87,10 +88,10 @@ module _ (s : List ℕ) (b : Book) (read : reading s ≡ accepted b) where
 
     -- ... and so after every replay.
     pub replay_leaves : (reports : List ℕ)
-        → replaying s flags start end reports paths walk
+        → replaying s batch start end reports paths walk
         ≡ answering (Ok (state_after opened (reports_of reports)).rec) (path_area (state_after opened (reports_of reports))) (state_after opened (reports_of reports)).area
     replay_leaves reports =
-        ap (λ x. replaying_of x flags start end reports paths walk) read
+        ap (λ x. replaying_of x batch start end reports paths walk) read
         ∙ ap (λ o. begun_as o (state_after opened (reports_of reports)) paths walk) ok
 
     -- The claim about the list, and demand 3, of what a replay leaves.

@@ -8,6 +8,7 @@ ghost use Rattle.series.specs.Making.{making, replaying};
 ghost use Rattle.series.specs.Reports.{is_report, size_of};
 
 use book::Refusal;
+use rules::Batch;
 use trial_record::Record;
 use trials::{Rejected, begin, report_failed, report_passed};
 
@@ -66,16 +67,16 @@ pub fn record_of(reported: Result<Record, Rejected>) -> Record
 // Begins, and makes each report of the list. What it takes stands apart: this outward form is set.
 pub fn replay(
     bytes: &[u8],
-    flags: u16,
+    batch: Batch,
     start: u8,
     end: u8,
     reports: &[u8],
     paths: &mut [u8],
     walk: &mut [u8],
 ) -> Result<Record, Refusal>
-    ensures { answering result paths.new walk.new ≡ replaying bytes.now flags start end reports.now paths.old walk.old }
+    ensures { answering result paths.new walk.new ≡ replaying bytes.now batch start end reports.now paths.old walk.old }
 {
-    let mut rec = begin(bytes, flags, start, end, paths, walk)?;
+    let mut rec = begin(bytes, batch, start, end, paths, walk)?;
     let mut at = 0;
     while let Some(made) = make(bytes, rec, reports, at, paths, walk) {
         rec = record_of(made.reported);

@@ -17,7 +17,7 @@ use Rattle.trial_rules.specs.Accepted.{Accepted, Accepts}
 
 pub begin-accepted : (b : Begin) → Accepted b
 begin-accepted b =
-    let h = none→hold (begin_tests b.graph b.start b.end b.paths b.area) b.not-refused in
+    let h = none→hold (begin_tests b.batch b.graph b.start b.end b.paths b.area) b.not-refused in
     record { paths-fit = leb-true _ _ h.0; area-fits = leb-true _ _ h.1.0; start = ltb-true _ _ h.1.1.0; end = ltb-true _ _ h.1.1.1.0 }
 
 path-area-fits : (σ : State) → area_size ≤ length (path_area σ)

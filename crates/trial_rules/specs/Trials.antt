@@ -15,6 +15,8 @@ use Rattle.book.specs.Book.{is_path}
 use Rattle.states.specs.Chosen.{Decided}
 use Rattle.rules.specs.Binding.{once}
 use Rattle.rules.specs.Area.{written}
+use Rattle.rules.specs.declared.Batch.{Batch}
+use Rattle.rules.specs.Operations.{date_test}
 use Rattle.limits.specs.Limits.{most_paths, area_size, longest}
 use Rattle.trial_record.specs.declared.Record.{Record}
 
@@ -121,12 +123,12 @@ abbrev pub has_room : State → Report → Bool
 has_room σ passed = true
 has_room σ (failed r) = ltb σ.rec.known most_paths
 
--- Begin: 8, 7.
-abbrev pub begin_tests : Graph → ℕ → ℕ → List ℕ → List ℕ → List Test
-begin_tests g s t paths area = area_tests paths area ++ (test 7 (ltb s g.count) ∷ test 7 (ltb t g.count) ∷ [])
+-- Begin: 8, 7, 15.
+abbrev pub begin_tests : Batch → Graph → ℕ → ℕ → List ℕ → List ℕ → List Test
+begin_tests batch g s t paths area = area_tests paths area ++ (test 7 (ltb s g.count) ∷ test 7 (ltb t g.count) ∷ date_test batch ∷ [])
 
-abbrev pub begin_refusal : Graph → ℕ → ℕ → List ℕ → List ℕ → Option Refusal
-begin_refusal g s t paths area = refusal_by (begin_tests g s t paths area)
+abbrev pub begin_refusal : Batch → Graph → ℕ → ℕ → List ℕ → List ℕ → Option Refusal
+begin_refusal batch g s t paths area = refusal_by (begin_tests batch g s t paths area)
 
 -- What a report is refused for by what it says: 12, 13.
 abbrev pub said_tests : Graph → State → Report → List Test
@@ -250,8 +252,9 @@ module _ (plan : Plan) (s t : ℕ) where
   replanned F (r ∷ rs) area = replanned (F ++ (r ∷ [])) rs (overlaid (plan (F ++ (r ∷ [])) s t) area)
 
 -- ---- an accepted begin, and a list of reports after it
--- The graph and a planner for it, the forbidden set that binding gives, start and end, both areas as lent; and that it is not refused.
+-- The batch, the graph and a planner for it, the forbidden set that binding gives, start and end, both areas as lent; and that it is not refused.
 pub record Begin : Type 0 where
+  pub batch : Batch
   pub graph : Graph
   pub plan : Plan
   pub planner : Planner graph plan
@@ -261,7 +264,7 @@ pub record Begin : Type 0 where
   pub end : ℕ
   pub paths : List ℕ
   pub area : List ℕ
-  pub not-refused : begin_refusal graph start end paths area ≡ none
+  pub not-refused : begin_refusal batch graph start end paths area ≡ none
 
 abbrev pub begun : Begin → State
 begun b = begin b.graph b.plan b.bound b.start b.end b.paths b.area

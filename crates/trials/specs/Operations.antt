@@ -4,6 +4,7 @@ use Rattle.std.proofs.Math.Option.{Option, none, some}
 use Rattle.book.specs.declared.Refusal.{Refusal}
 use Rattle.book.specs.Book.{Book, graph}
 use Rattle.book.specs.Reading.{Reading, reading, refusal_of, book_in}
+use Rattle.rules.specs.declared.Batch.{Batch}
 use Rattle.rules.specs.Binding.{known}
 use Rattle.judging.specs.Judging.{state_of, report_tests}
 use Rattle.trial_record.specs.declared.Record.{Record}
@@ -27,15 +28,15 @@ begun_as none σ paths walk = answering (Ok σ.rec) (path_area σ) σ.area
 begun_as (some x) σ paths walk = answering (Err x) paths walk
 
 -- The state after the rule of begin, in a book.
-abbrev pub first_state : Book → ℕ → ℕ → ℕ → List ℕ → List ℕ → State
-first_state b flags start end paths walk = begin (graph b) (chosen (graph b)) (known flags b.sets) start end paths walk
+abbrev pub first_state : Book → Batch → ℕ → ℕ → List ℕ → List ℕ → State
+first_state b batch start end paths walk = begin (graph b) (chosen (graph b)) (known batch b.sets) start end paths walk
 
-abbrev pub beginning_of : Reading → ℕ → ℕ → ℕ → List ℕ → List ℕ → Leaves (Result Record Refusal)
-beginning_of x flags start end paths walk =
-    begun_as (refusal_of x (λ b. begin_tests (graph b) start end paths walk)) (first_state (book_in x) flags start end paths walk) paths walk
+abbrev pub beginning_of : Reading → Batch → ℕ → ℕ → List ℕ → List ℕ → Leaves (Result Record Refusal)
+beginning_of x batch start end paths walk =
+    begun_as (refusal_of x (λ b. begin_tests batch (graph b) start end paths walk)) (first_state (book_in x) batch start end paths walk) paths walk
 
-abbrev pub beginning : List ℕ → ℕ → ℕ → ℕ → List ℕ → List ℕ → Leaves (Result Record Refusal)
-beginning s flags start end paths walk = beginning_of (reading s) flags start end paths walk
+abbrev pub beginning : List ℕ → Batch → ℕ → ℕ → List ℕ → List ℕ → Leaves (Result Record Refusal)
+beginning s batch start end paths walk = beginning_of (reading s) batch start end paths walk
 
 -- ---- a report
 abbrev pub rejected : Refusal → Record → Rejected

@@ -11,6 +11,7 @@ use Rattle.book.specs.Book.{Book, WellFormed, graph}
 use Rattle.book.proofs.BookLaws.{is_path→IsPath}
 use Rattle.rules.specs.Binding.{known}
 use Rattle.rules.proofs.BindingLaws.{known-few, known-paths, known-once}
+use Rattle.rules.specs.declared.Batch.{Batch}
 use Rattle.routes.specs.Plan.{Searched}
 use Rattle.limits.specs.Limits.{longest}
 use Rattle.trial_record.specs.declared.Record.{Record}
@@ -27,19 +28,20 @@ chosen-planner b w =
     }
 
 -- The known paths of a batch are a forbidden set.
-pub known-set : (flags : ℕ) (b : Book) → WellFormed b → ForbiddenSet b.count (known flags b.sets)
-known-set flags b w =
-    forbidden-set b.count (known flags b.sets) (known-few flags b w) (once→Distinct _ (true→T _ (known-once flags b w))) (known-paths flags b w)
+pub known-set : (batch : Batch) (b : Book) → WellFormed b → ForbiddenSet b.count (known batch b.sets)
+known-set batch b w =
+    forbidden-set b.count (known batch b.sets) (known-few batch b w) (once→Distinct _ (true→T _ (known-once batch b w))) (known-paths batch b w)
 
 -- The trials that an accepted begin opens in a book that is read.
-abbrev pub trials_of : (b : Book) → WellFormed b → (flags start end : ℕ) (paths walk : List ℕ) → begin_refusal (graph b) start end paths walk ≡ none → Begin
-trials_of b w flags start end paths walk e =
+abbrev pub trials_of : (b : Book) → WellFormed b → (batch : Batch) (start end : ℕ) (paths walk : List ℕ) → begin_refusal batch (graph b) start end paths walk ≡ none → Begin
+trials_of b w batch start end paths walk e =
     record {
+      batch = batch;
       graph = graph b;
       plan = chosen (graph b);
       planner = chosen-planner b w;
-      bound = known flags b.sets;
-      bound-set = known-set flags b w;
+      bound = known batch b.sets;
+      bound-set = known-set batch b w;
       start = start;
       end = end;
       paths = paths;

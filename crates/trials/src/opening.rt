@@ -7,36 +7,37 @@ ghost use Rattle.trials.specs.Operations.{answering, beginning_of, beginning};
 
 use book::{Loaded, Refusal};
 use limits::{AREA, LONGEST};
+use rules::Batch;
 use trial_record::Record;
 use walks::PathArea;
 
-// Binds the rule sets that apply to a batch with these flags, and plans from start to end: the forbidden paths that are known then
+// Binds the rule sets that apply to a batch, and plans from start to end: the forbidden paths that are known then
 // go to the front of `paths`, the walk to the front of `walk`.
 pub fn begin(
     bytes: &[u8],
-    flags: u16,
+    batch: Batch,
     start: u8,
     end: u8,
     paths: &mut [u8],
     walk: &mut [u8],
 ) -> Result<Record, Refusal>
-    ensures { answering result paths.new walk.new ≡ beginning bytes.now flags start end paths.old walk.old }
+    ensures { answering result paths.new walk.new ≡ beginning bytes.now batch start end paths.old walk.old }
 {
     let book = book::load(bytes)?;
-    begin_in(&book, flags, start, end, paths, walk)
+    begin_in(&book, batch, start, end, paths, walk)
 }
 
 // The same in a book that has been read. All is tested before anything is written.
 fn begin_in(
     book: &Loaded,
-    flags: u16,
+    batch: Batch,
     start: u8,
     end: u8,
     paths: &mut [u8],
     walk: &mut [u8],
 ) -> Result<Record, Refusal>
     requires { (b : Book) × IsLoaded b book.now }
-    ensures { (b : Book) → IsLoaded b book.now → answering result paths.new walk.new ≡ beginning_of (accepted b) flags start end paths.old walk.old }
+    ensures { (b : Book) → IsLoaded b book.now → answering result paths.new walk.new ≡ beginning_of (accepted b) batch start end paths.old walk.old }
 {
     let arcs = book.arcs();
     if paths.len() < AREA {
@@ -51,8 +52,11 @@ fn begin_in(
     if arcs.vertices <= usize::from(end) {
         return Err(Refusal::Endpoint);
     }
+    if !batch.date.is_valid() {
+        return Err(Refusal::Date);
+    }
     let mut known = [0; AREA];
-    let count = rules::gather(book, flags, &mut known);
+    let count = rules::gather(book, batch, &mut known);
     let area = PathArea {
         bytes: &known,
         count,

@@ -16,6 +16,7 @@ use Rattle.walk_check.specs.Checking.{checkable, occurrence, checked_unless, che
 use Rattle.rules.specs.Operations.{binding, area_after}
 use Rattle.rules.specs.Laws.{Filled}
 use Rattle.rules.proofs.ValidLaws.{valid→Valid}
+use Rattle.rules.specs.declared.Batch.{Batch}
 use Rattle.walk_check.proofs.CheckLaws.{clear→Avoids, Avoids→clear}
 
 -- the paths of a valid area have 2 to 8 vertices
@@ -47,10 +48,10 @@ module _ (s area : List ℕ) (count : ℕ) (w : List ℕ) where
   avoids-clear e h = ap (λ o. checked_unless o (occurrence (spelled count area) w)) e ∙ ap Ok (Avoids→clear (spelled count area) w h)
 
 -- With the area and the count of an accepted bind only 10 is refused, and the check is that of the known paths.
-pub bind-then-check : (s : List ℕ) (flags : ℕ) (area : List ℕ) (F : List (List ℕ)) (f : Filled s flags area F) (w : List ℕ)
-    → checking s (area_after (binding s flags area) area) (length F) w ≡ checked_unless (refusal_by (test 10 (checkable (graph f.book) w) ∷ [])) (occurrence F w)
-bind-then-check s flags area F f w =
-    let after = area_after (binding s flags area) area in
+pub bind-then-check : (s : List ℕ) (batch : Batch) (area : List ℕ) (F : List (List ℕ)) (f : Filled s batch area F) (w : List ℕ)
+    → checking s (area_after (binding s batch area) area) (length F) w ≡ checked_unless (refusal_by (test 10 (checkable (graph f.book) w) ∷ [])) (occurrence F w)
+bind-then-check s batch area F f w =
+    let after = area_after (binding s batch area) area in
     let held : List Test = test 8 (leb area_size (length after)) ∷ test 9 (valid f.book.count after (length F)) ∷ [] in
     ap (λ r. checking_of r after (length F) w) f.read
     ∙ ap₂ (λ o G. checked_unless o (occurrence G w))

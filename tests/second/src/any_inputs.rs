@@ -1,12 +1,13 @@
 //! Random cases of single calls: most are good but for one fault, some are
 //! garbage.
 
-use crate::binding::{self, ENTRY, MOST_KNOWN, RUNS_AREA};
+use crate::binding::{self, Batch, ENTRY, MOST_KNOWN, RUNS_AREA};
 use crate::book::{self, Book, Run};
 use crate::calls::{Call, Case, MOST_AREA};
 use crate::changeovers::Changeover;
 use crate::check;
 use crate::damage::damaged;
+use crate::dates::Date;
 use crate::draft::Draft;
 use crate::faults::{self, faults, Fault};
 use crate::generate;
@@ -15,6 +16,7 @@ use crate::plan::LINEUP_AREA;
 use crate::programs::{Report, Trials};
 use crate::random::Random;
 use crate::samples;
+use crate::seasons;
 use crate::trials::{Record, PASSED, STANDS};
 
 /// The input of a call.
@@ -59,17 +61,17 @@ fn good(random: &mut Random, call: Call) -> (Draft, Case) {
         };
         let book = scene.draft.bytes();
         let (start, end) = inputs::terminals(random, &scene);
-        let marks = generate::batch_marks(random);
+        let batch = inputs::good_batch(random, &scene.draft);
         // Start or end may not be below the count.
-        if let Ok(trials) = Trials::begin(&book, marks, start, end) {
+        if let Ok(trials) = Trials::begin(&book, batch, start, end) {
             if trials.record.length > 1 || random.chance(10) {
-                return (scene.draft.clone(), after(random, trials, marks, call));
+                return (scene.draft.clone(), after(random, trials, batch, call));
             }
         }
     }
 }
 
-fn after(random: &mut Random, mut trials: Trials, marks: u16, call: Call) -> Case {
+fn after(random: &mut Random, mut trials: Trials, batch: Batch, call: Call) -> Case {
     for _ in 0..random.below(4) {
         let kept = trials.clone();
         if let Some(named) = generate::part_of(random, trials.lineup()) {
@@ -83,7 +85,7 @@ fn after(random: &mut Random, mut trials: Trials, marks: u16, call: Call) -> Cas
     let Trials { book: bytes, record, runs_area, lineup_area } = trials;
     let mut case = Case {
         record,
-        marks,
+        batch,
         runs: runs_area.to_vec(),
         lineup: lineup_area.to_vec(),
         list: Vec::new(),
@@ -215,7 +217,9 @@ fn scribble(random: &mut Random, area: &mut [u8]) {
 /// Any bytes at all; the book is mostly a good one, or the rest would never be
 /// judged.
 fn garbage(random: &mut Random) -> Case {
-    let draft = generate::tiny(random);
+    let mut draft = generate::tiny(random);
+    seasons::with_seasons(random, &mut draft);
+    let date = garbage_date(random, &draft);
     let book = match random.below(10) {
         0 => (0..random.below(60)).map(|_| random.byte() % 5).collect(),
         1 => damaged(random, &draft),
@@ -234,11 +238,20 @@ fn garbage(random: &mut Random) -> Case {
     };
     Case {
         record,
-        marks: random.word() as u16,
+        batch: Batch { marks: random.word() as u16, date },
         runs: any_bytes(random, RUNS_AREA),
         lineup: any_bytes(random, LINEUP_AREA),
         list: (0..random.below(12)).map(|_| random.byte() % 6).collect(),
         book,
+    }
+}
+
+/// Mostly a good one, or 15 would hide the rest.
+fn garbage_date(random: &mut Random, draft: &Draft) -> Date {
+    if random.chance(75) {
+        seasons::good_date(random, &draft.windows())
+    } else {
+        Date { day: random.byte(), month: random.byte(), year: random.word() as u16 }
     }
 }
 
@@ -274,10 +287,11 @@ fn any_bytes(random: &mut Random, size: usize) -> Vec<u8> {
 /// be named.
 pub fn begun_on_book_a() -> Case {
     let book = samples::book_a().bytes();
-    let trials = Trials::begin(&book, 3, 0, 3).expect("the trials of book A begin");
+    let batch = samples::batch(3);
+    let trials = Trials::begin(&book, batch, 0, 3).expect("the trials of book A begin");
     Case {
         record: trials.record,
-        marks: 3,
+        batch,
         runs: trials.runs_area.to_vec(),
         lineup: trials.lineup_area.to_vec(),
         list: vec![1, 2, 3],
@@ -305,20 +319,56 @@ pub fn chosen(random: &mut Random, call: Call) -> Vec<Vec<u8>> {
             cases.push(case.bytes());
         }
     }
+    if matches!(call, Call::Bind | Call::Begin) {
+        cases.extend(dates(&exact).iter().map(Case::bytes));
+    }
     cases.extend(wrong_books(&exact).iter().chain(&wrong_sizes(&exact)).map(Case::bytes));
     let whole = exact.bytes();
     let book_from = whole.len() - exact.book.len();
     cases.extend((0..=book_from + 4).step_by(3).map(|length| whole[..length].to_vec()));
     cases.extend((book_from - 4..book_from).map(|length| whole[..length].to_vec()));
+    // About the end of the head, which the date is.
+    cases.extend((70..80).map(|length| whole[..length].to_vec()));
     cases
 }
 
-/// 1 to 6 come before 8.
+/// Book A with each window of its vapour sheet; a run of two sheets of which one has a
+/// window; and the dates that 15 is for, of which one also with what comes before it: 1 to
+/// 6 and 14, 8, and 7.
+fn dates(good: &Case) -> Vec<Case> {
+    let seasons = samples::seasons_of_book_a();
+    let mut cases: Vec<Case> = seasons
+        .into_iter()
+        .map(|(book, batch, _)| Case { batch, book: book.bytes(), ..good.clone() })
+        .collect();
+    let shared = samples::book_of_a_shared_run().bytes();
+    cases.extend(samples::batches_of_a_shared_run().into_iter().map(|batch| Case {
+        batch,
+        book: shared.clone(),
+        ..good.clone()
+    }));
+    cases.extend(samples::bad_batches().into_iter().map(|batch| Case { batch, ..good.clone() }));
+    let bad = Case { batch: samples::bad_batch(), ..good.clone() };
+    for end in [good.record.end, 4] {
+        let record = Record { end, ..good.record };
+        let case = Case { record, ..bad.clone() };
+        let short_runs = Case { runs: case.runs[1..].to_vec(), ..case.clone() };
+        let short_lineup = Case { lineup: case.lineup[1..].to_vec(), ..case.clone() };
+        let bad_window = samples::book_a_in([31, 11, 15, 9]).bytes();
+        let bad_book = Case { book: bad_window, ..short_runs.clone() };
+        cases.extend([case, short_runs, short_lineup, bad_book]);
+    }
+    cases
+}
+
+/// 1 to 6 come before 8, and so does 14.
 fn wrong_books(good: &Case) -> Vec<Case> {
     let book = Case { book: good.book[..good.book.len() - 1].to_vec(), ..good.clone() };
     let book_and_area = Case { runs: Vec::new(), ..book.clone() };
     let empty = Case { book: Vec::new(), runs: Vec::new(), ..good.clone() };
-    vec![book, book_and_area, empty]
+    let window = Case { book: samples::book_a_in([1, 5, 31, 9]).bytes(), ..good.clone() };
+    let window_and_area = Case { runs: Vec::new(), ..window.clone() };
+    vec![book, book_and_area, empty, window, window_and_area]
 }
 
 /// Areas as long as a case may have them, and longer; 8 before 7 and 9.

@@ -1,6 +1,8 @@
-//! Binding and the runs area: 01, "Binding", and refusal 9 for known runs.
+//! Binding and the runs area: 01, "Binding", and refusal 9 for known runs. Sheets
+//! bind by the date too, with refusal 15: 02, order 4.
 
-use crate::book::{self, Book, Run};
+use crate::book::{self, Book, Run, Sheet};
+use crate::dates::{Date, Day};
 use crate::refusal::Refusal;
 use std::collections::BTreeSet;
 
@@ -8,27 +10,37 @@ pub const MOST_KNOWN: usize = 256;
 pub const ENTRY: usize = 9;
 pub const RUNS_AREA: usize = MOST_KNOWN * ENTRY;
 
+/// What a batch has: its marks and its date.
+#[derive(Clone, Copy, Debug, PartialEq, Eq)]
+pub struct Batch {
+    pub marks: u16,
+    pub date: Date,
+}
+
 /// Binds a batch: writes its known runs into the area and gives their count.
-pub fn bind(bytes: &[u8], marks: u16, area: &mut [u8]) -> Result<usize, Refusal> {
+pub fn bind(bytes: &[u8], batch: Batch, area: &mut [u8]) -> Result<usize, Refusal> {
     let book = book::read(bytes)?;
     if area.len() < RUNS_AREA {
         return Err(Refusal::plain(8));
     }
-    let known = known_runs(&book, marks);
+    let known = known_runs(&book, batch)?;
     write_area(&known, area);
     Ok(known.len())
 }
 
-/// The distinct runs of the binding sheets in order of first appearance.
-pub fn known_runs(book: &Book, marks: u16) -> Vec<Run> {
+/// The distinct runs of the binding sheets in order of first appearance, or refusal
+/// 15 for a bad date.
+pub fn known_runs(book: &Book, batch: Batch) -> Result<Vec<Run>, Refusal> {
+    let day = batch.date.day_of_year().ok_or(Refusal::plain(15))?;
     let mut seen = BTreeSet::new();
-    let binding = book.sheets.iter().filter(|sheet| binds(sheet.marks, marks));
-    binding.flat_map(|sheet| &sheet.runs).filter(|run| seen.insert(*run)).cloned().collect()
+    let binding = book.sheets.iter().filter(|sheet| binds(sheet, batch.marks, day));
+    Ok(binding.flat_map(|sheet| &sheet.runs).filter(|run| seen.insert(*run)).cloned().collect())
 }
 
-/// A sheet binds when every mark that it needs is among the batch's.
-pub fn binds(needed: u16, marks: u16) -> bool {
-    needed & !marks == 0
+/// A sheet binds when every mark that it needs is among the batch's, and the day
+/// lies in its window, if it has one.
+fn binds(sheet: &Sheet, marks: u16, day: Day) -> bool {
+    sheet.marks & !marks == 0 && sheet.window.map_or(true, |window| window.has(day))
 }
 
 /// Writes all 256 entries, unused bytes as 0, and nothing after them.

@@ -1,7 +1,9 @@
 //! The book and its reader: 01, "The book" and refusals 1 to 6. A run may come
-//! back to a grade, and have neighbours equal: 02, order 2.
+//! back to a grade, and have neighbours equal: 02, order 2. A sheet may have a
+//! window, with refusal 14: 02, order 4.
 
 use crate::changeovers::{Changeover, Changeovers};
+use crate::dates::Window;
 use crate::refusal::Refusal;
 
 pub const MOST_SHEETS: usize = 16;
@@ -22,6 +24,8 @@ pub type Run = Vec<u8>;
 pub struct Sheet {
     /// The marks that the sheet needs.
     pub marks: u16,
+    /// The days on which it holds; none if it holds all the year.
+    pub window: Option<Window>,
     pub runs: Vec<Run>,
 }
 
@@ -56,7 +60,7 @@ pub fn read(bytes: &[u8]) -> Result<Book, Refusal> {
 
 /// Reads the first field of `rest` into the book and gives the bytes that it
 /// takes, or the number of its refusal. The tests stand in 01's order: 1 for
-/// the head, 2, 3, 1 for the body, then 4, 5 and 6 for what the field says.
+/// the head, 2, 3, 1 for the body, then 4 or 14, 5 and 6 for what the field says.
 fn read_field(rest: &[u8], book: &mut Option<Book>) -> Result<usize, u8> {
     if rest.len() < HEAD {
         return Err(1);
@@ -95,7 +99,7 @@ fn tag_has_length(tag: u8, length: usize) -> bool {
     match tag {
         TAG_COUNT => length == 1,
         TAG_CHANGEOVER => length == 6,
-        TAG_SHEET => length == 2,
+        TAG_SHEET => length == 2 || length == 6,
         _ => (SHORTEST_RUN..=LONGEST_RUN).contains(&length),
     }
 }
@@ -108,7 +112,7 @@ fn start_book(body: &[u8]) -> Result<Book, u8> {
 fn extend_book(book: &mut Book, tag: u8, body: &[u8]) -> Result<(), u8> {
     match tag {
         TAG_CHANGEOVER => book.changeovers.add(changeover(body)),
-        TAG_SHEET => add_sheet(book, u16::from_be_bytes([body[0], body[1]])),
+        TAG_SHEET => add_sheet(book, sheet(body)?),
         _ => add_run(book, body),
     }
 }
@@ -118,11 +122,24 @@ fn changeover(body: &[u8]) -> Changeover {
     Changeover { from: body[0], to: body[1], litres }
 }
 
-fn add_sheet(book: &mut Book, marks: u16) -> Result<(), u8> {
+/// A sheet without its runs, in the short form or the long one. A bad window is 14,
+/// also where a sheet more is 6.
+fn sheet(body: &[u8]) -> Result<Sheet, u8> {
+    let window = match body {
+        [_, _, first_day, first_month, last_day, last_month] => {
+            let bytes = [*first_day, *first_month, *last_day, *last_month];
+            Some(Window::read(bytes).ok_or(14)?)
+        }
+        _ => None,
+    };
+    Ok(Sheet { marks: u16::from_be_bytes([body[0], body[1]]), window, runs: Vec::new() })
+}
+
+fn add_sheet(book: &mut Book, sheet: Sheet) -> Result<(), u8> {
     if book.sheets.len() == MOST_SHEETS {
         return Err(6);
     }
-    book.sheets.push(Sheet { marks, runs: Vec::new() });
+    book.sheets.push(sheet);
     Ok(())
 }
 

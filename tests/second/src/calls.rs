@@ -1,7 +1,7 @@
 //! Single calls with any record, and areas of any length and content: their
 //! input, and what the kinds `any_...` print.
 
-use crate::binding;
+use crate::binding::{self, Batch};
 use crate::check;
 use crate::plan::{self, Answer, Known};
 use crate::programs::{Input, CUT_SHORT};
@@ -23,13 +23,13 @@ pub enum Call {
     Failed,
 }
 
-/// All that a call may take; each takes what 01 says. The count of known runs,
+/// All that a call may take; each takes what 01 and 02 say. The count of known runs,
 /// start and end are the record's, and the list is the line-up to check or the
 /// named run.
 #[derive(Clone, Debug, PartialEq, Eq)]
 pub struct Case {
     pub record: Record,
-    pub marks: u16,
+    pub batch: Batch,
     pub runs: Vec<u8>,
     pub lineup: Vec<u8>,
     pub list: Vec<u8>,
@@ -52,12 +52,13 @@ impl Case {
         ] {
             bytes.extend(number.to_be_bytes());
         }
-        bytes.extend(self.marks.to_be_bytes());
+        bytes.extend(self.batch.marks.to_be_bytes());
         for (area, given) in [(&self.runs, runs), (&self.lineup, lineup)] {
             bytes.extend(lengths(area, given));
             bytes.push(area.last().copied().unwrap_or(0));
         }
         bytes.extend((self.list.len() as u16).to_be_bytes());
+        bytes.extend(self.batch.date.bytes());
         bytes.extend([runs, lineup, &self.list, &self.book].concat());
         bytes
     }
@@ -79,9 +80,10 @@ impl Case {
         let runs = AreaHead::read(&mut input)?;
         let lineup = AreaHead::read(&mut input)?;
         let list = usize::from(input.word()?);
+        let date = input.date()?;
         Ok(Case {
             record,
-            marks,
+            batch: Batch { marks, date },
             runs: runs.area(&mut input)?,
             lineup: lineup.area(&mut input)?,
             list: input.take(list)?.to_vec(),
@@ -98,17 +100,17 @@ impl Case {
     }
 
     fn answer(&self, call: Call, runs: &mut [u8], lineup: &mut [u8]) -> Result<String, Refusal> {
-        let Case { record, marks, list, book, .. } = self;
+        let Case { record, batch, list, book, .. } = self;
         let Record { start, end, .. } = *record;
         let count = usize::try_from(record.known).unwrap_or(usize::MAX);
         match call {
-            Call::Bind => binding::bind(book, *marks, runs).map(|count| format!("KNOWN {count}\n")),
+            Call::Bind => binding::bind(book, *batch, runs).map(|count| format!("KNOWN {count}\n")),
             Call::Check => check::check(book, runs, count, list).map(text::check),
             Call::Plan => {
                 let answer = plan::plan(book, Known { area: runs, count }, start, end, lineup)?;
                 Ok(planned(answer, lineup))
             }
-            Call::Begin => trials::begin(book, *marks, start, end, runs, lineup)
+            Call::Begin => trials::begin(book, *batch, start, end, runs, lineup)
                 .map(|record| text::record(&record, lineup)),
             Call::Passed => trials::report_passed(book, *record, runs, lineup)
                 .map(|record| text::record(&record, lineup)),

@@ -3,6 +3,7 @@
 
 use crate::book::{TAG_CHANGEOVER, TAG_COUNT, TAG_RUN, TAG_SHEET};
 use crate::changeovers::Changeover;
+use crate::dates::Window;
 
 #[derive(Clone, Debug, PartialEq, Eq)]
 pub struct Field {
@@ -15,6 +16,15 @@ pub struct Field {
 impl Field {
     pub fn new(tag: u8, body: &[u8]) -> Field {
         Field { tag, length: body.len() as u16, body: body.to_vec() }
+    }
+
+    fn window(&self) -> Option<Window> {
+        match *self.body {
+            [_, _, first_day, first_month, last_day, last_month] if self.tag == TAG_SHEET => {
+                Window::read([first_day, first_month, last_day, last_month])
+            }
+            _ => None,
+        }
     }
 
     fn bytes(&self) -> Vec<u8> {
@@ -58,6 +68,11 @@ impl Draft {
         self.field(TAG_SHEET, &marks.to_be_bytes())
     }
 
+    /// A sheet in the long form: first day, first month, last day, last month.
+    pub fn season(self, marks: u16, window: [u8; 4]) -> Draft {
+        self.field(TAG_SHEET, &[&marks.to_be_bytes()[..], &window].concat())
+    }
+
     pub fn run(self, grades: &[u8]) -> Draft {
         self.field(TAG_RUN, grades)
     }
@@ -68,5 +83,10 @@ impl Draft {
 
     pub fn bytes(&self) -> Vec<u8> {
         self.fields.iter().flat_map(Field::bytes).collect()
+    }
+
+    /// The windows of its sheets, as far as they are good.
+    pub fn windows(&self) -> Vec<Window> {
+        self.fields.iter().filter_map(Field::window).collect()
     }
 }

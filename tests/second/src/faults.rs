@@ -1,5 +1,6 @@
 //! Faults of a single call, one at a time: each condition of 01's refusals 7,
-//! 8, 9 and 11 to 13 on what a report takes, on both sides where it has two.
+//! 8, 9 and 11 to 13 on what a report takes, on both sides where it has two; and bad
+//! dates, which a report takes no notice of.
 
 use crate::binding::{self, ENTRY, MOST_KNOWN, RUNS_AREA};
 use crate::book::{self, Run, LONGEST_RUN};
@@ -8,6 +9,7 @@ use crate::check;
 use crate::generate;
 use crate::plan::LINEUP_AREA;
 use crate::random::Random;
+use crate::seasons;
 use crate::trials::{NONE, PASSED, STANDS};
 
 /// What a fault spoils.
@@ -15,6 +17,7 @@ use crate::trials::{NONE, PASSED, STANDS};
 pub enum Part {
     Sizes,
     Terminals,
+    Date,
     Runs,
     Record,
     Named,
@@ -26,6 +29,7 @@ impl Part {
         match self {
             Part::Sizes => true,
             Part::Terminals => !matches!(call, Call::Bind | Call::Check),
+            Part::Date => matches!(call, Call::Bind | Call::Begin),
             Part::Runs => !matches!(call, Call::Bind | Call::Begin),
             Part::Record => matches!(call, Call::Passed | Call::Failed),
             Part::Named => call == Call::Failed,
@@ -89,6 +93,22 @@ pub fn faults() -> Vec<Fault> {
         }),
         fault("another end", Part::Terminals, Some(9), |random, case| {
             case.record.end = other_grade(random, case, case.record.end)
+        }),
+        fault("a bad date", Part::Date, None, bad_date),
+        fault("another good date", Part::Date, None, |random, case| {
+            case.batch.date = seasons::good_date(random, &[])
+        }),
+        fault("a bad date and a start not below the count", Part::Date, Some(9), |random, case| {
+            bad_date(random, case);
+            case.record.start = random.pick(&[grades(case), 255]);
+        }),
+        fault("a bad date and a runs area one byte short", Part::Date, Some(8), |random, case| {
+            bad_date(random, case);
+            case.runs.truncate(RUNS_AREA - 1);
+        }),
+        fault("a bad date and a short line-up area", Part::Date, Some(8), |random, case| {
+            bad_date(random, case);
+            case.lineup.truncate(random.below(LINEUP_AREA));
         }),
         fault("a run of no grades", Part::Runs, Some(9), |random, case| {
             set_length(random, case, 0)
@@ -364,6 +384,10 @@ pub fn faults() -> Vec<Fault> {
             case.list = entry[1..].iter().copied().take(usize::from(entry[0])).collect();
         }),
     ]
+}
+
+fn bad_date(random: &mut Random, case: &mut Case) {
+    case.batch.date = seasons::bad_date(random, &[]);
 }
 
 /// The book's count of grades; 64 where the book is damaged.

@@ -1,6 +1,6 @@
 //! Random books that keep 01's rules, deterministic by the random numbers.
 
-use crate::binding;
+use crate::binding::{self, Batch};
 use crate::book::{self, Book, Run, LONGEST_RUN, SHORTEST_RUN};
 use crate::changeovers::{Changeover, Changeovers, MOST_LITRES};
 use crate::draft::Draft;
@@ -40,8 +40,9 @@ pub fn typical(random: &mut Random) -> Draft {
     book_of_size(random, Size { grades: 30, changeovers: 300, sheets: 4, runs: 20 })
 }
 
-/// The largest book: 64 grades, all 4,032 changeovers, 16 sheets and 256 runs
-/// of 8. Litres are any, and the runs all differ.
+/// A book with as many fields as it may have: 64 grades, all 4,032 changeovers, 16
+/// sheets and 256 runs of 8. Litres are any, and the runs all differ. The sheets have
+/// no windows; with a window each, the book is the longest.
 pub fn largest(random: &mut Random) -> Draft {
     let litres: Vec<u32> = (0..=MOST_LITRES).step_by(997).collect();
     let items = random_changeovers(random, 64, pairs(64), &litres);
@@ -55,7 +56,7 @@ pub fn largest(random: &mut Random) -> Draft {
     sheets_of_16(Draft::new(64).changeovers(&items), &runs)
 }
 
-/// All runs in sheets of 16 that bind every batch.
+/// All runs in sheets of 16 that bind every batch, on every date.
 pub fn sheets_of_16(draft: Draft, runs: &[Run]) -> Draft {
     runs.chunks(16).fold(draft, |draft, part| draft.sheet(0).runs(part))
 }
@@ -501,8 +502,13 @@ pub fn read(draft: &Draft) -> Book {
     }
 }
 
-/// The plan of a draft under all of its runs that bind the marks.
-pub fn plan_of(draft: &Draft, marks: u16, start: u8, end: u8) -> Option<plan::Plan> {
+/// The runs that bind a batch of a good date.
+pub fn runs_of(book: &Book, batch: Batch) -> Vec<Run> {
+    binding::known_runs(book, batch).expect("the date is good")
+}
+
+/// The plan of a draft under all of its runs that the batch binds.
+pub fn plan_of(draft: &Draft, batch: Batch, start: u8, end: u8) -> Option<plan::Plan> {
     let book = read(draft);
-    plan::best(&book.changeovers, &binding::known_runs(&book, marks), start, end)
+    plan::best(&book.changeovers, &runs_of(&book, batch), start, end)
 }

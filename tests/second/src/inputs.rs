@@ -1,11 +1,12 @@
 //! Random inputs of the programs: a kind, a seed and an index give one case.
 
 use crate::any_inputs;
-use crate::binding::ENTRY;
+use crate::binding::{Batch, ENTRY};
 use crate::book::{self, Book, Run};
 use crate::changeovers::Changeover;
 use crate::check;
 use crate::damage::damaged;
+use crate::dates::Date;
 use crate::draft::Draft;
 use crate::generate::{self, Size};
 use crate::kinds::Kind;
@@ -13,6 +14,8 @@ use crate::pass_inputs;
 use crate::plan::LINEUP_AREA;
 use crate::programs::{Report, Trials, MOST_INPUT};
 use crate::random::Random;
+use crate::samples;
+use crate::seasons;
 use crate::table_inputs;
 use crate::trials::STANDS;
 
@@ -44,8 +47,14 @@ impl From<Draft> for Scene {
     }
 }
 
-/// Most scenes are tiny, a few large.
+/// Most scenes are tiny, a few large. Half of those with sheets have windows.
 pub fn any_scene(random: &mut Random) -> Scene {
+    let mut scene = scene_without_windows(random);
+    seasons::with_seasons(random, &mut scene.draft);
+    scene
+}
+
+fn scene_without_windows(random: &mut Random) -> Scene {
     match random.below(1000) {
         0 => generate::largest(random).into(),
         1..=20 => generate::typical(random).into(),
@@ -124,11 +133,34 @@ pub fn terminals(random: &mut Random, scene: &Scene) -> (u8, u8) {
     (start, other)
 }
 
+/// Marks, and a date beside the windows of the book.
+pub fn any_batch(random: &mut Random, draft: &Draft) -> Batch {
+    let marks = generate::batch_marks(random);
+    Batch { marks, date: seasons::any_date(random, &draft.windows()) }
+}
+
+/// The same with a good date.
+pub fn good_batch(random: &mut Random, draft: &Draft) -> Batch {
+    let marks = generate::batch_marks(random);
+    Batch { marks, date: seasons::good_date(random, &draft.windows()) }
+}
+
+/// A start that is bad now and then where the date is: 7 comes before 15.
+fn start_beside(random: &mut Random, date: Date, start: u8) -> u8 {
+    if !date.is_good() && random.chance(20) {
+        random.pick(&[64, 255])
+    } else {
+        start
+    }
+}
+
 fn plan_case(random: &mut Random) -> Vec<u8> {
     let scene = any_scene(random);
+    let batch = any_batch(random, &scene.draft);
     let (start, end) = terminals(random, &scene);
-    let book = book_bytes(random, &scene.draft, 15);
-    let mut input = plan_input(generate::batch_marks(random), start, end, &book);
+    let start = start_beside(random, batch.date, start);
+    let book = book_bytes(random, &scene.draft, 13);
+    let mut input = plan_input(batch, start, end, &book);
     other_length(random, &mut input);
     input
 }
@@ -137,33 +169,37 @@ fn plan_case(random: &mut Random) -> Vec<u8> {
 /// read.
 pub(crate) fn other_length(random: &mut Random, input: &mut Vec<u8>) {
     match random.below(250) {
-        0..=2 => input.truncate(random.below(6)),
+        0..=2 => input.truncate(random.below(10)),
         3 => input.resize(MOST_INPUT + random.below(3), random.below(5) as u8),
         _ => {}
     }
 }
 
 /// The input of `plan`.
-pub fn plan_input(marks: u16, start: u8, end: u8, book: &[u8]) -> Vec<u8> {
-    let mut input = marks.to_be_bytes().to_vec();
+pub fn plan_input(batch: Batch, start: u8, end: u8, book: &[u8]) -> Vec<u8> {
+    let mut input = batch.marks.to_be_bytes().to_vec();
     input.extend([start, end]);
+    input.extend(batch.date.bytes());
     input.extend(book);
     input
 }
 
 fn board_case(random: &mut Random) -> Vec<u8> {
     let scene = any_scene(random);
+    let batch = any_batch(random, &scene.draft);
     let (start, _) = terminals(random, &scene);
+    let start = start_beside(random, batch.date, start);
     let book = book_bytes(random, &scene.draft, 10);
-    let mut input = board_input(generate::batch_marks(random), start, &book);
+    let mut input = board_input(batch, start, &book);
     other_length(random, &mut input);
     input
 }
 
 /// The input of `board`.
-pub fn board_input(marks: u16, start: u8, book: &[u8]) -> Vec<u8> {
-    let mut input = marks.to_be_bytes().to_vec();
+pub fn board_input(batch: Batch, start: u8, book: &[u8]) -> Vec<u8> {
+    let mut input = batch.marks.to_be_bytes().to_vec();
     input.push(start);
+    input.extend(batch.date.bytes());
     input.extend(book);
     input
 }
@@ -172,16 +208,17 @@ fn check_lineup_case(random: &mut Random) -> Vec<u8> {
     let draft = any_scene(random).draft;
     let lineup = any_lineup(random, &generate::read(&draft));
     let book = book_bytes(random, &draft, 8);
-    let mut input = check_lineup_input(generate::batch_marks(random), &lineup, &book);
+    let mut input = check_lineup_input(any_batch(random, &draft), &lineup, &book);
     if random.chance(3) {
-        input.truncate(random.below(lineup.len() + 6));
+        input.truncate(random.below(lineup.len() + 10));
     }
     input
 }
 
 /// The input of `check_lineup`.
-pub fn check_lineup_input(marks: u16, lineup: &[u8], book: &[u8]) -> Vec<u8> {
-    let mut input = marks.to_be_bytes().to_vec();
+pub fn check_lineup_input(batch: Batch, lineup: &[u8], book: &[u8]) -> Vec<u8> {
+    let mut input = batch.marks.to_be_bytes().to_vec();
+    input.extend(batch.date.bytes());
     input.extend((lineup.len() as u16).to_be_bytes());
     input.extend(lineup);
     input.extend(book);
@@ -226,11 +263,12 @@ fn walk(random: &mut Random, book: &Book, length: usize) -> Vec<u8> {
 
 fn replay_case(random: &mut Random) -> Vec<u8> {
     let scene = if random.chance(2) { many_runs_draft(random).into() } else { any_scene(random) };
+    let batch = any_batch(random, &scene.draft);
     let (start, end) = terminals(random, &scene);
+    let start = start_beside(random, batch.date, start);
     let book = book_bytes(random, &scene.draft, 4);
-    let marks = generate::batch_marks(random);
-    let mut input = replay_input(marks, start, end, &book);
-    if let Ok(trials) = Trials::begin(&book, marks, start, end) {
+    let mut input = replay_input(batch, start, end, &book);
+    if let Ok(trials) = Trials::begin(&book, batch, start, end) {
         input.extend(lab_reports(random, trials));
     }
     spoil_tail(random, &mut input);
@@ -238,9 +276,10 @@ fn replay_case(random: &mut Random) -> Vec<u8> {
 }
 
 /// The input of `replay` up to its reports.
-pub fn replay_input(marks: u16, start: u8, end: u8, book: &[u8]) -> Vec<u8> {
-    let mut input = marks.to_be_bytes().to_vec();
+pub fn replay_input(batch: Batch, start: u8, end: u8, book: &[u8]) -> Vec<u8> {
+    let mut input = batch.marks.to_be_bytes().to_vec();
     input.extend([start, end]);
+    input.extend(batch.date.bytes());
     input.extend((book.len() as u32).to_be_bytes());
     input.extend(book);
     input
@@ -257,7 +296,7 @@ fn spoil_tail(random: &mut Random, input: &mut Vec<u8>) {
     }
 }
 
-/// A book with so many runs that the 257th known run comes soon.
+/// A book with so many runs that the 257th known run comes soon. No sheet has a window.
 pub fn many_runs_draft(random: &mut Random) -> Draft {
     let grades = 9;
     let litres = random.pick(&[vec![1], vec![0, 1], vec![1, 2, 3]]);
@@ -426,10 +465,12 @@ fn known_run(trials: &Trials, place: usize) -> Run {
 /// doesn't is 12, and the line-up can still pass.
 pub fn replay_past_256(random: &mut Random) -> Vec<u8> {
     loop {
-        let book = many_runs_draft(random).bytes();
+        let batch = samples::batch(0);
+        let draft = many_runs_draft(random);
+        let book = seasons::all_in_season(random, draft, batch.date).bytes();
         let (start, end) = (random.below(9) as u8, random.below(9) as u8);
-        let mut input = replay_input(0, start, end, &book);
-        if let Ok(trials) = Trials::begin(&book, 0, start, end) {
+        let mut input = replay_input(batch, start, end, &book);
+        if let Ok(trials) = Trials::begin(&book, batch, start, end) {
             if let Some(reports) = reports_past_256(random, trials) {
                 input.extend(reports);
                 return input;

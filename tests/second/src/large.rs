@@ -1,32 +1,49 @@
 //! Inputs of `plan` and `board` at the limits of length.
 
+use crate::binding::Batch;
 use crate::book::{Run, LONGEST_RUN};
 use crate::changeovers::{Changeover, MOST_GRADES};
 use crate::damage::damaged;
 use crate::draft::Draft;
 use crate::generate;
-use crate::inputs::{board_input, plan_input};
+use crate::inputs::{self, board_input, plan_input};
 use crate::programs::MOST_INPUT;
 use crate::random::Random;
+use crate::samples;
+use crate::seasons;
 
 /// The bytes of the longest book, and of the longest inputs that are not refused.
-const LONGEST_BOOK: usize = 39_188;
-pub const LONGEST_INPUT: usize = 4 + LONGEST_BOOK;
-pub const LONGEST_BOARD: usize = 3 + LONGEST_BOOK;
+pub const LONGEST_BOOK: usize = 39_252;
+pub const LONGEST_INPUT: usize = 8 + LONGEST_BOOK;
+pub const LONGEST_BOARD: usize = 7 + LONGEST_BOOK;
 
 /// A plan over one of the largest books.
 pub fn largest_plan(random: &mut Random) -> Vec<u8> {
-    let draft = largest_book(random);
+    let (draft, batch) = longest_book(random);
     let start = random.below(MOST_GRADES);
     let end = (start + random.between(1, MOST_GRADES - 1)) % MOST_GRADES;
-    plan_input(generate::batch_marks(random), start as u8, end as u8, &draft.bytes())
+    plan_input(batch, start as u8, end as u8, &draft.bytes())
 }
 
 /// A board over one of the largest books.
 pub fn largest_board(random: &mut Random) -> Vec<u8> {
-    let draft = largest_book(random);
+    let (draft, batch) = longest_book(random);
     let start = random.below(MOST_GRADES) as u8;
-    board_input(generate::batch_marks(random), start, &draft.bytes())
+    board_input(batch, start, &draft.bytes())
+}
+
+/// One of the largest books with a window in every sheet, and a batch of a good date.
+/// Two thirds of them have all sheets bind it.
+fn longest_book(random: &mut Random) -> (Draft, Batch) {
+    let draft = largest_book(random);
+    if random.below(3) > 0 {
+        let date = seasons::good_date(random, &[]);
+        let draft = seasons::all_in_season(random, draft, date);
+        return (draft, Batch { marks: generate::batch_marks(random), date });
+    }
+    let draft = seasons::all_with_windows(random, draft);
+    let batch = inputs::good_batch(random, &draft);
+    (draft, batch)
 }
 
 pub(crate) fn largest_book(random: &mut Random) -> Draft {
@@ -79,10 +96,11 @@ pub fn long_plan(random: &mut Random, index: u64) -> Vec<u8> {
     let length = long(LONGEST_INPUT, index);
     let input = match random.below(8) {
         _ if length == LONGEST_INPUT => largest_plan(random),
-        0 => plan_input(0, 0, 1, &generate::tiny(random).bytes()),
+        0 => plan_input(samples::batch(0), 0, 1, &generate::tiny(random).bytes()),
         1 => {
             let draft = generate::largest(random);
-            plan_input(0, 0, 1, &damaged(random, &draft))
+            let draft = seasons::all_with_windows(random, draft);
+            plan_input(samples::batch(0), 0, 1, &damaged(random, &draft))
         }
         _ => largest_plan(random),
     };
@@ -93,7 +111,9 @@ pub fn long_plan(random: &mut Random, index: u64) -> Vec<u8> {
 pub fn long_board(random: &mut Random, index: u64) -> Vec<u8> {
     let length = long(LONGEST_BOARD, index);
     let input = match random.below(8) {
-        0 if length != LONGEST_BOARD => board_input(0, 0, &generate::tiny(random).bytes()),
+        0 if length != LONGEST_BOARD => {
+            board_input(samples::batch(0), 0, &generate::tiny(random).bytes())
+        }
         _ => largest_board(random),
     };
     filled(random, input, length)

@@ -1,9 +1,9 @@
-//! A second fuel-sequence planner, written from paper 01 and orders 1 to 3 of paper 02
+//! A second fuel-sequence planner, written from paper 01 and orders 1 to 4 of paper 02
 //! alone, and the random books, vectors and comparisons that hold another planner against it.
 //!
-//! The planner: `book`, `changeovers`, `binding`, `check`, `plan`, `board`,
+//! The planner: `book`, `changeovers`, `dates`, `binding`, `check`, `plan`, `board`,
 //! `passes`, `trials`, `text`, `programs`, `calls`, `tables` and `lists`. Its own check:
-//! `exhaustive`. What feeds tests: `random`, `draft`, `generate`, `damage`,
+//! `exhaustive`. What feeds tests: `random`, `draft`, `generate`, `seasons`, `damage`,
 //! `inputs`, `faults`, `any_inputs`, `table_inputs`, `pass_inputs`, `list_inputs`,
 //! `large`, `sources`, `samples`, `vectors`, `frames` and `kinds`.
 
@@ -17,6 +17,7 @@ pub mod calls;
 pub mod changeovers;
 pub mod check;
 pub mod damage;
+pub mod dates;
 pub mod draft;
 pub mod exhaustive;
 pub mod faults;
@@ -34,6 +35,7 @@ pub mod programs;
 pub mod random;
 pub mod refusal;
 pub mod samples;
+pub mod seasons;
 pub mod sources;
 pub mod table_inputs;
 pub mod tables;

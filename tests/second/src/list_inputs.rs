@@ -1,6 +1,6 @@
 //! Inputs of `plan_list`, chosen and random ones.
 
-use crate::binding::{self, ENTRY, MOST_KNOWN, RUNS_AREA};
+use crate::binding::{self, Batch, ENTRY, MOST_KNOWN, RUNS_AREA};
 use crate::book::Run;
 use crate::changeovers::{Changeover, MOST_LITRES};
 use crate::draft::Draft;
@@ -40,13 +40,13 @@ pub fn stored(seed: u64) -> Vec<Vec<u8>> {
 }
 
 /// The changeovers of a book as a list, under the runs that bind a batch.
-pub fn list_of(draft: &Draft, marks: u16, start: u8, end: u8) -> List {
+pub fn list_of(draft: &Draft, batch: Batch, start: u8, end: u8) -> List {
     let book = generate::read(draft);
     List {
         grades: book.grades() as u16,
         start,
         end,
-        ..with_known(&binding::known_runs(&book, marks), book.changeovers.list())
+        ..with_known(&generate::runs_of(&book, batch), book.changeovers.list())
     }
 }
 
@@ -62,7 +62,8 @@ fn with_known(known: &[Run], items: Vec<Changeover>) -> List {
 fn any_list(random: &mut Random) -> List {
     let scene = inputs::any_scene(random);
     let (start, end) = inputs::terminals(random, &scene);
-    let mut list = list_of(&scene.draft, generate::batch_marks(random), start, end);
+    let batch = inputs::good_batch(random, &scene.draft);
+    let mut list = list_of(&scene.draft, batch, start, end);
     random.shuffle(&mut list.items);
     list
 }
@@ -202,7 +203,7 @@ fn chosen(seed: u64) -> Vec<Vec<u8>> {
 
 /// Book A's changeovers in the order of the paper.
 fn list_a(marks: u16, start: u8, end: u8) -> List {
-    let list = list_of(&samples::book_a(), marks, start, end);
+    let list = list_of(&samples::book_a(), samples::batch(marks), start, end);
     List { items: items_a(), ..list }
 }
 
@@ -223,7 +224,7 @@ fn book_a_lists() -> Vec<List> {
         }
     }
     for draft in samples::books_with_runs_that_come_back() {
-        lists.extend((0..4).map(|marks| list_of(&draft, marks, 0, 3)));
+        lists.extend((0..4).map(|marks| list_of(&draft, samples::batch(marks), 0, 3)));
     }
     lists
 }
@@ -292,15 +293,18 @@ fn orders_of_refusals() -> Vec<List> {
 /// The changeovers of books that are planned from elsewhere.
 fn lists_of_books(random: &mut Random) -> Vec<List> {
     let ties = samples::book_of_ties();
-    let mut lists = vec![list_of(&ties, 0, 0, 3), list_of(&ties.changeover(0, 3, 200), 0, 0, 3)];
+    let batch = samples::batch(0);
+    let with_short_way = ties.clone().changeover(0, 3, 200);
+    let mut lists = vec![list_of(&ties, batch, 0, 3), list_of(&with_short_way, batch, 0, 3)];
     let line = generate::line(64, true, 1_000_000);
-    lists.push(list_of(&line, 0, 0, 63));
+    lists.push(list_of(&line, batch, 0, 63));
     let wheels = &samples::WHEELS;
     let end = generate::wheels_end(wheels);
-    lists.push(list_of(&generate::wheels(wheels, None), 0, 0, end));
+    lists.push(list_of(&generate::wheels(wheels, None), batch, 0, end));
     for _ in 0..6 {
         let typical = generate::typical(random);
-        lists.push(list_of(&typical, generate::batch_marks(random), 0, random.below(30) as u8));
+        let batch = samples::batch(generate::batch_marks(random));
+        lists.push(list_of(&typical, batch, 0, random.below(30) as u8));
     }
     lists
 }
@@ -308,7 +312,7 @@ fn lists_of_books(random: &mut Random) -> Vec<List> {
 /// All 4,032 pairs; one item more, which is 5 at 4,032; and more items than
 /// the program keeps.
 fn long_lists(random: &mut Random) -> Vec<List> {
-    let all = list_of(&generate::largest(random), 0, 0, 63);
+    let all = list_of(&generate::largest(random), samples::batch(0), 0, 63);
     let mut lists = vec![all.clone()];
     for more in [1, 68, 69, 900] {
         let again = all.items.iter().cycle().take(generate::pairs(64) + more);

@@ -10,6 +10,7 @@ use crate::inputs;
 use crate::large;
 use crate::random::Random;
 use crate::samples;
+use crate::seasons;
 use std::collections::BTreeMap;
 
 /// The input of `passes`.
@@ -179,13 +180,15 @@ fn thirty_grades(random: &mut Random) -> Vec<Draft> {
     drafts
 }
 
-/// All changeovers that a book can have, without runs and with 256.
+/// All changeovers that a book can have, without runs and with 256, in sheets without
+/// windows and with them.
 fn largest(random: &mut Random) -> Vec<Draft> {
     let any: Vec<u32> = (0..=MOST_LITRES).step_by(997).collect();
+    let winding = large::largest_winding(random);
     vec![
         every_changeover(random, MOST_GRADES, &[0]),
         every_changeover(random, MOST_GRADES, &any),
         generate::largest(random),
-        large::largest_winding(random),
+        seasons::all_with_windows(random, winding),
     ]
 }

@@ -1,9 +1,10 @@
 //! The programs as functions from standard input to standard output.
 
-use crate::binding::{self, RUNS_AREA};
+use crate::binding::{self, Batch, RUNS_AREA};
 use crate::board;
 use crate::book;
 use crate::check;
+use crate::dates::Date;
 use crate::passes;
 use crate::plan::{self, LINEUP_AREA};
 use crate::refusal::Refusal;
@@ -16,7 +17,7 @@ pub const MOST_INPUT: usize = 65_536;
 /// Input that is shorter than its own fixed part or its lengths say.
 pub(crate) const CUT_SHORT: Refusal = Refusal { number: 1, at: Some(0) };
 
-/// 01's program `plan`: marks, start, end, then a book.
+/// 01's program `plan`: marks, start, end, the date, then a book.
 pub fn plan(input: &[u8]) -> String {
     plan_text(first_bytes(input)).unwrap_or_else(text::refusal)
 }
@@ -25,15 +26,16 @@ fn plan_text(input: &[u8]) -> Result<String, Refusal> {
     let mut input = Input(input);
     let marks = input.word()?;
     let (start, end) = (input.byte()?, input.byte()?);
+    let date = input.date()?;
     let book = book::read(input.0)?;
     if !book.changeovers.has_grade(start) || !book.changeovers.has_grade(end) {
         return Err(Refusal::plain(7));
     }
-    let runs = binding::known_runs(&book, marks);
+    let runs = binding::known_runs(&book, Batch { marks, date })?;
     Ok(text::plan(plan::best(&book.changeovers, &runs, start, end).as_ref()))
 }
 
-/// 02's board: marks, start, then a book.
+/// 02's board: marks, start, the date, then a book.
 pub fn board(input: &[u8]) -> String {
     board_text(first_bytes(input)).unwrap_or_else(text::refusal)
 }
@@ -42,11 +44,12 @@ fn board_text(input: &[u8]) -> Result<String, Refusal> {
     let mut input = Input(input);
     let marks = input.word()?;
     let start = input.byte()?;
+    let date = input.date()?;
     let book = book::read(input.0)?;
     if !book.changeovers.has_grade(start) {
         return Err(Refusal::plain(7));
     }
-    let runs = binding::known_runs(&book, marks);
+    let runs = binding::known_runs(&book, Batch { marks, date })?;
     Ok(text::board(&board::ends(&book.changeovers, &runs, start)))
 }
 
@@ -58,8 +61,8 @@ pub fn passes(input: &[u8]) -> String {
     }
 }
 
-/// `check_lineup`: marks, the line-up's length in two bytes, the line-up, the
-/// book.
+/// `check_lineup`: marks, the date, the line-up's length in two bytes, the line-up,
+/// the book.
 pub fn check_lineup(input: &[u8]) -> String {
     check_text(input).unwrap_or_else(text::refusal)
 }
@@ -67,16 +70,17 @@ pub fn check_lineup(input: &[u8]) -> String {
 fn check_text(input: &[u8]) -> Result<String, Refusal> {
     let mut input = Input(input);
     let marks = input.word()?;
+    let date = input.date()?;
     let length = usize::from(input.word()?);
     let lineup = input.take(length)?;
     let book = input.0;
     let mut runs_area = [0; RUNS_AREA];
-    let count = binding::bind(book, marks, &mut runs_area)?;
+    let count = binding::bind(book, Batch { marks, date }, &mut runs_area)?;
     check::check(book, &runs_area, count, lineup).map(text::check)
 }
 
-/// `replay`: marks, start, end, the book's length in four bytes, the book,
-/// then reports.
+/// `replay`: marks, start, end, the date, the book's length in four bytes, the
+/// book, then reports.
 pub fn replay(input: &[u8]) -> String {
     replay_text(input).unwrap_or_else(text::refusal)
 }
@@ -85,9 +89,10 @@ fn replay_text(input: &[u8]) -> Result<String, Refusal> {
     let mut input = Input(input);
     let marks = input.word()?;
     let (start, end) = (input.byte()?, input.byte()?);
+    let date = input.date()?;
     let length = input.double_word()? as usize;
     let book = input.take(length)?;
-    let mut trials = Trials::begin(book, marks, start, end)?;
+    let mut trials = Trials::begin(book, Batch { marks, date }, start, end)?;
     let mut text = trials.text();
     while let Ok(report) = input.report() {
         text += &trials.report(report);
@@ -123,10 +128,10 @@ pub struct Trials<'a> {
 }
 
 impl<'a> Trials<'a> {
-    pub fn begin(book: &'a [u8], marks: u16, start: u8, end: u8) -> Result<Trials<'a>, Refusal> {
+    pub fn begin(book: &'a [u8], batch: Batch, start: u8, end: u8) -> Result<Trials<'a>, Refusal> {
         let mut runs_area = [0; RUNS_AREA];
         let mut lineup_area = [0; LINEUP_AREA];
-        let record = trials::begin(book, marks, start, end, &mut runs_area, &mut lineup_area)?;
+        let record = trials::begin(book, batch, start, end, &mut runs_area, &mut lineup_area)?;
         Ok(Trials { book, record, runs_area, lineup_area })
     }
 
@@ -179,6 +184,11 @@ impl<'a> Input<'a> {
     pub(crate) fn word(&mut self) -> Result<u16, Refusal> {
         let bytes = self.take(2)?;
         Ok(u16::from_be_bytes([bytes[0], bytes[1]]))
+    }
+
+    /// Day, month, and the year in two bytes.
+    pub(crate) fn date(&mut self) -> Result<Date, Refusal> {
+        Ok(Date { day: self.byte()?, month: self.byte()?, year: self.word()? })
     }
 
     pub(crate) fn double_word(&mut self) -> Result<u32, Refusal> {

@@ -1,10 +1,10 @@
-//! A refusal: its number in 01, and for 1 to 6 where it lies.
+//! A refusal: its number in 01 or 02, and for 1 to 6 and 14 where it lies.
 
 #[derive(Clone, Copy, Debug, PartialEq, Eq)]
 pub struct Refusal {
     pub number: u8,
     /// The byte at which the bad field starts; in the list form of planning
-    /// the index of the bad item. Refusals 7 to 13 have none.
+    /// the index of the bad item. Refusals 7 to 13 and 15 have none.
     pub at: Option<usize>,
 }
 

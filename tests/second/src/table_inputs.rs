@@ -9,6 +9,7 @@ use crate::calls::{Call, Case, MOST_AREA};
 use crate::changeovers::MOST_GRADES;
 use crate::faults::faults;
 use crate::random::Random;
+use crate::samples;
 use crate::tables::{TableCase, MOST_TABLE};
 
 /// The input of a call.
@@ -148,7 +149,7 @@ fn contents(random: &mut Random, good: &TableCase) -> Vec<TableCase> {
     tables.into_iter().map(|table| TableCase { table, ..good.clone() }).collect()
 }
 
-/// 1 to 6 before 8, 8 before 7, 7 before 9.
+/// 1 to 6 and 14 before 8, 8 before 7, 7 before 9.
 fn orders_of_refusals(good: &TableCase) -> Vec<TableCase> {
     let known = TableCase { known: 300, ..good.clone() };
     let start = TableCase { start: 4, ..known.clone() };
@@ -158,7 +159,10 @@ fn orders_of_refusals(good: &TableCase) -> Vec<TableCase> {
     let book = TableCase { book: good.book[..good.book.len() - 1].to_vec(), ..both.clone() };
     let empty = TableCase { book: Vec::new(), runs: Vec::new(), table: Vec::new(), ..both.clone() };
     let count = TableCase { book: vec![1, 0, 1, 65], ..both.clone() };
-    vec![known, start, table, runs, both, book, empty, count]
+    let bad_window = samples::book_a_in([1, 5, 31, 9]).bytes();
+    let window = TableCase { book: bad_window.clone(), ..good.clone() };
+    let window_and_both = TableCase { book: bad_window, ..both.clone() };
+    vec![known, start, table, runs, both, book, empty, count, window, window_and_both]
 }
 
 /// Beginnings of an input whose table is given in part.

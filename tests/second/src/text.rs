@@ -2,6 +2,7 @@
 
 use crate::book::Book;
 use crate::check::Found;
+use crate::dates::Window;
 use crate::passes::Counts;
 use crate::plan::{Answer, Plan};
 use crate::refusal::Refusal;
@@ -89,7 +90,12 @@ pub fn book(book: &Book) -> String {
         text += &format!("ARC {} {} {}\n", item.from, item.to, item.litres);
     }
     for sheet in &book.sheets {
-        text += &format!("SHEET {}\n", sheet.marks);
+        text += &format!("SHEET {}", sheet.marks);
+        if let Some(Window { first, last }) = sheet.window {
+            let edges = [first.day, first.month, last.day, last.month].map(|word| word.to_string());
+            text += &format!(" WINDOW {}", edges.join(" "));
+        }
+        text += "\n";
         for run in &sheet.runs {
             text += &format!("RUN {}", grades_line(run));
         }

@@ -1,6 +1,6 @@
-//! Trials: 01, "Trials", with refusals 8, 7, 9, 11, 12 and 13.
+//! Trials: 01, "Trials", with refusals 8, 7, 15, 9, 11, 12 and 13.
 
-use crate::binding::{self, MOST_KNOWN, RUNS_AREA};
+use crate::binding::{self, Batch, MOST_KNOWN, RUNS_AREA};
 use crate::book::{self, Book, Run};
 use crate::check;
 use crate::plan::{self, Plan, LINEUP_AREA};
@@ -26,7 +26,7 @@ pub struct Record {
 /// Begins trials: binds, plans, and hands back the first record.
 pub fn begin(
     bytes: &[u8],
-    marks: u16,
+    batch: Batch,
     start: u8,
     end: u8,
     runs_area: &mut [u8],
@@ -37,7 +37,7 @@ pub fn begin(
     if !book.changeovers.has_grade(start) || !book.changeovers.has_grade(end) {
         return Err(Refusal::plain(7));
     }
-    let runs = binding::known_runs(&book, marks);
+    let runs = binding::known_runs(&book, batch)?;
     binding::write_area(&runs, runs_area);
     let known = runs.len() as u64;
     let begun = Record {

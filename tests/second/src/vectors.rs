@@ -1,6 +1,8 @@
 //! The stored vectors: of each kind and of lists the chosen cases, then random
 //! ones.
 
+use crate::binding::Batch;
+use crate::dates::Date;
 use crate::frames;
 use crate::generate;
 use crate::inputs;
@@ -90,30 +92,32 @@ pub fn stored(seed: u64, folder: &str) -> Vec<Stored> {
     list
 }
 
-/// A case of each program that takes one, with what it is.
+/// A case of each program that takes one, with what it is. The day of their date is no
+/// month, so that who exchanges the two has another answer.
 fn single_cases(seed: u64) -> Vec<(Kind, Vec<u8>, &'static str)> {
     let book = samples::book_a().bytes();
+    let batch = Batch { marks: 3, date: Date::new(15, 7, 2026) };
     let reports = [inputs::failed_bytes(&[1, 2, 3]), inputs::failed_bytes(&[1, 3]), vec![0]];
     vec![
         (
             Kind::Plan,
-            inputs::plan_input(3, 0, 3, &book),
-            "the case that paper 01 lists for `plan`: marks 3, start 0, end 3 and book A",
+            inputs::plan_input(batch, 0, 3, &book),
+            "the case that paper 01 lists for `plan`: marks 3, start 0, end 3, 15 July 2026 and book A",
         ),
         (
             Kind::Board,
-            inputs::board_input(3, 0, &book),
-            "one case of `board`: marks 3, start 0 and book A",
+            inputs::board_input(batch, 0, &book),
+            "one case of `board`: marks 3, start 0, 15 July 2026 and book A",
         ),
         (
             Kind::CheckLineup,
-            inputs::check_lineup_input(3, &[0, 1, 2, 3], &book),
-            "one case of `check_lineup`: marks 3, the line-up 0 1 2 3 and book A",
+            inputs::check_lineup_input(batch, &[0, 1, 2, 3], &book),
+            "one case of `check_lineup`: marks 3, 15 July 2026, the line-up 0 1 2 3 and book A",
         ),
         (
             Kind::Replay,
-            [inputs::replay_input(3, 0, 3, &book), reports.concat()].concat(),
-            "one case of `replay`: marks 3, start 0, end 3 and book A, then the reports of\n\
+            [inputs::replay_input(batch, 0, 3, &book), reports.concat()].concat(),
+            "one case of `replay`: marks 3, start 0, end 3, 15 July 2026 and book A, then the reports of\n\
              paper 01's settled sums, named 1 2 3 and named 1 3, and then passed, which is refused\n\
              since the trials are over",
         ),

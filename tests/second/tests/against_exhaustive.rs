@@ -1,6 +1,5 @@
 //! The planner against the exhaustive ones, on thousands of tiny books.
 
-use second::binding;
 use second::book::Run;
 use second::changeovers::Changeovers;
 use second::check;
@@ -8,6 +7,7 @@ use second::exhaustive;
 use second::generate::{self, Size};
 use second::plan::{self, Plan, LINEUP_AREA};
 use second::random::Random;
+use second::samples::batch;
 
 /// How often each kind of answer came up, so that a test can say that it saw
 /// enough of each.
@@ -79,7 +79,7 @@ fn book_a() {
         (2, 300, &[0, 1, 2, 3]),
         (3, 450, &[0, 1, 2, 1, 2, 3]),
     ] {
-        let runs = binding::known_runs(&book, marks);
+        let runs = generate::runs_of(&book, batch(marks));
         let plan = Some(Plan { litres, lineup: lineup.to_vec() });
         assert_eq!(exhaustive::best_first(&book.changeovers, &runs, 0, 3), plan);
         let all = exhaustive::best_of_all(&book.changeovers, &runs, 0, 3, 12, 100_000);
@@ -95,7 +95,7 @@ fn tiny_books() {
     for seed in 0..4_000 {
         let random = &mut Random::new(&[1, seed]);
         let book = generate::read(&generate::tiny(random));
-        let runs = binding::known_runs(&book, generate::batch_marks(random));
+        let runs = generate::runs_of(&book, batch(generate::batch_marks(random)));
         listed += compare(&book.changeovers, &runs, &mut tally);
     }
     assert!(listed > 20_000, "listed {listed}");
@@ -115,7 +115,7 @@ fn grown_books() {
         let size = Size { grades, changeovers, sheets: 0, runs: random.between(2, 25) };
         let end = random.between(1, grades - 1) as u8;
         let book = generate::read(&generate::grown(random, size, &litres, 0, end));
-        compare(&book.changeovers, &binding::known_runs(&book, 0), &mut tally);
+        compare(&book.changeovers, &generate::runs_of(&book, batch(0)), &mut tally);
     }
     assert!(tally.comes_back > 250 && tally.long > 800, "{} and {}", tally.comes_back, tally.long);
 }
@@ -127,7 +127,7 @@ fn turning_books() {
     for seed in 0..1_200 {
         let random = &mut Random::new(&[8, seed]);
         let book = generate::read(&generate::turning(random).0);
-        compare(&book.changeovers, &binding::known_runs(&book, 0), &mut tally);
+        compare(&book.changeovers, &generate::runs_of(&book, batch(0)), &mut tally);
     }
     assert!(tally.plans > 25_000 && tally.none > 10_000, "{} and {}", tally.plans, tally.none);
     assert!(
@@ -191,7 +191,7 @@ fn start_equal_to_end_is_that_grade() {
     for seed in 0..300 {
         let random = &mut Random::new(&[5, seed]);
         let book = generate::read(&generate::small(random));
-        let runs = binding::known_runs(&book, 0xffff);
+        let runs = generate::runs_of(&book, batch(0xffff));
         for grade in 0..book.grades() as u8 {
             let plan = plan::best(&book.changeovers, &runs, grade, grade);
             assert_eq!(plan, Some(Plan { litres: 0, lineup: vec![grade] }));
@@ -207,7 +207,7 @@ fn small_and_typical_books() {
         let draft =
             if seed % 12 == 0 { generate::typical(random) } else { generate::small(random) };
         let book = generate::read(&draft);
-        let runs = binding::known_runs(&book, 0xffff);
+        let runs = generate::runs_of(&book, batch(0xffff));
         let (start, end) = (random.below(book.grades()) as u8, random.below(book.grades()) as u8);
         let plan = plan::best(&book.changeovers, &runs, start, end);
         assert_eq!(plan, exhaustive::best_first(&book.changeovers, &runs, start, end));
@@ -220,25 +220,28 @@ fn small_and_typical_books() {
 fn wheels_force_long_plans() {
     let spokes = second::samples::WHEELS;
     let draft = generate::wheels(&spokes, None);
-    let plan = generate::plan_of(&draft, 0, 0, generate::wheels_end(&spokes)).unwrap();
+    let plan = generate::plan_of(&draft, batch(0), 0, generate::wheels_end(&spokes)).unwrap();
     assert_eq!((plan.changes(), plan.litres), (40 * 7 + 2, 282));
     let book = generate::read(&draft);
     assert_holds(
         &plan,
         &book.changeovers,
-        &binding::known_runs(&book, 0),
+        &generate::runs_of(&book, batch(0)),
         0,
         generate::wheels_end(&spokes),
     );
     let with_all_pairs = generate::wheels(&spokes, Some(1_000_000));
-    assert_eq!(generate::plan_of(&with_all_pairs, 0, 0, generate::wheels_end(&spokes)), Some(plan));
+    assert_eq!(
+        generate::plan_of(&with_all_pairs, batch(0), 0, generate::wheels_end(&spokes)),
+        Some(plan)
+    );
 }
 
 /// 64 grades and 256 runs of 8: the bound of 01 is 1,600.
 #[test]
 fn the_bound_on_a_plan() {
     let book = generate::read(&generate::largest(&mut Random::new(&[1])));
-    let runs = binding::known_runs(&book, 0);
+    let runs = generate::runs_of(&book, batch(0));
     assert_eq!(runs.len(), 256);
     assert_eq!(exhaustive::most_grades(64, &runs), LINEUP_AREA);
     let plan = plan::best(&book.changeovers, &runs, 0, 63).unwrap();

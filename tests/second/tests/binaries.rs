@@ -34,7 +34,7 @@ fn text(output: &Output) -> String {
 
 #[test]
 fn second_answers_one_case_or_a_stream() {
-    let listing = inputs::plan_input(3, 0, 3, &samples::book_a().bytes());
+    let listing = inputs::plan_input(samples::batch(3), 0, 3, &samples::book_a().bytes());
     let answer = "LITRES 450 CHANGES 5\n0 1 2 1 2 3\n";
     assert_eq!(text(&run(SECOND, &["plan"], &listing)), answer);
     let stream = [

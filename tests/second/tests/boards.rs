@@ -2,7 +2,7 @@
 //! against the exhaustive planner, the order of refusals, and every number of the
 //! table.
 
-use second::binding::{self, RUNS_AREA};
+use second::binding::{self, Batch, RUNS_AREA};
 use second::board::{self, NO_END};
 use second::draft::Draft;
 use second::exhaustive;
@@ -13,21 +13,22 @@ use second::plan::{self, Answer, Known, LINEUP_AREA};
 use second::programs;
 use second::random::Random;
 use second::refusal::Refusal;
-use second::samples;
+use second::samples::{self, batch};
+use second::seasons;
 use second::table_inputs::table_of_book_a;
 use second::tables::{TableCase, MOST_TABLE};
 
 fn board(marks: u16, start: u8, draft: &Draft) -> String {
-    programs::board(&inputs::board_input(marks, start, &draft.bytes()))
+    programs::board(&inputs::board_input(batch(marks), start, &draft.bytes()))
 }
 
 /// What stands in a table before it is filled.
 const SIGN: u32 = 0x5a5a_5a5a;
 
 /// What the operation leaves in a table of that many numbers.
-fn filled(marks: u16, start: u8, book: &[u8], numbers: usize) -> Result<Vec<u32>, Refusal> {
+fn filled(batch: Batch, start: u8, book: &[u8], numbers: usize) -> Result<Vec<u32>, Refusal> {
     let mut area = vec![0; RUNS_AREA];
-    let count = binding::bind(book, marks, &mut area).unwrap();
+    let count = binding::bind(book, batch, &mut area).unwrap();
     let mut table = vec![SIGN; numbers];
     board::fill(book, Known { area: &area, count }, start, &mut table).map(|_| table)
 }
@@ -42,14 +43,14 @@ fn book_a_from_0_and_from_3() {
     );
     assert_eq!(board(3, 3, &book), "0 NONE\n1 NONE\n2 NONE\n3 LITRES 0 CHANGES 0\n");
     let book = book.bytes();
-    assert_eq!(filled(3, 0, &book, 8), Ok(vec![0, 0, 100, 1, 200, 2, 450, 5]));
+    assert_eq!(filled(batch(3), 0, &book, 8), Ok(vec![0, 0, 100, 1, 200, 2, 450, 5]));
     let none = u32::MAX;
-    assert_eq!(filled(3, 3, &book, 8), Ok(vec![none, none, none, none, none, none, 0, 0]));
+    assert_eq!(filled(batch(3), 3, &book, 8), Ok(vec![none, none, none, none, none, none, 0, 0]));
     // Numbers after the entries are untouched, an odd last one too.
-    assert_eq!(filled(3, 0, &book, 9), Ok(vec![0, 0, 100, 1, 200, 2, 450, 5, SIGN]));
-    assert_eq!(filled(3, 0, &book, 10), Ok(vec![0, 0, 100, 1, 200, 2, 450, 5, SIGN, SIGN]));
+    assert_eq!(filled(batch(3), 0, &book, 9), Ok(vec![0, 0, 100, 1, 200, 2, 450, 5, SIGN]));
+    assert_eq!(filled(batch(3), 0, &book, 10), Ok(vec![0, 0, 100, 1, 200, 2, 450, 5, SIGN, SIGN]));
     for numbers in 0..8 {
-        assert_eq!(filled(3, 0, &book, numbers), Err(Refusal::plain(8)));
+        assert_eq!(filled(batch(3), 0, &book, numbers), Err(Refusal::plain(8)));
     }
 }
 
@@ -71,15 +72,21 @@ fn book_a_under_all_marks() {
 #[test]
 fn the_board_refuses() {
     let book = samples::book_a().bytes();
-    let input = inputs::board_input(3, 0, &book);
-    for length in 0..=6 {
+    let input = inputs::board_input(batch(3), 0, &book);
+    for length in 0..=10 {
         assert_eq!(programs::board(&input[..length]), "REFUSED 1 AT 0\n");
     }
-    assert_eq!(programs::board(&input[..7]).lines().count(), 4);
+    assert_eq!(programs::board(&input[..11]).lines().count(), 4);
     for start in [4, 5, 64, 255] {
         assert_eq!(board(3, start, &samples::book_a()), "REFUSED 7\n");
         assert_eq!(board(3, start, &samples::book_a().run(&[0, 4])), "REFUSED 4 AT 81\n");
     }
+    let on_a_bad_date = |start, draft: &Draft| {
+        programs::board(&inputs::board_input(samples::bad_batch(), start, &draft.bytes()))
+    };
+    assert_eq!(on_a_bad_date(0, &samples::book_a()), "REFUSED 15\n");
+    assert_eq!(on_a_bad_date(4, &samples::book_a()), "REFUSED 7\n");
+    assert_eq!(on_a_bad_date(4, &samples::book_a_in([1, 13, 1, 1])), "REFUSED 14 AT 70\n");
     assert_eq!(board(0, 0, &Draft::new(65)), "REFUSED 4 AT 0\n");
     assert_eq!(board(0, 0, &Draft::new(1)), "0 LITRES 0 CHANGES 0\n");
     assert_eq!(board(0, 1, &Draft::new(1)), "REFUSED 7\n");
@@ -98,15 +105,16 @@ fn entries_are_single_plans() {
     let mut area = vec![0; RUNS_AREA];
     for seed in 0..150 {
         let random = &mut Random::new(&[21, seed]);
-        let draft =
+        let mut draft =
             if seed % 30 == 0 { generate::typical(random) } else { generate::small(random) };
+        seasons::with_seasons(random, &mut draft);
         let book = draft.bytes();
-        let marks = generate::batch_marks(random);
-        let count = binding::bind(&book, marks, &mut area).unwrap();
+        let batch = inputs::good_batch(random, &draft);
+        let count = binding::bind(&book, batch, &mut area).unwrap();
         let known = Known { area: &area, count };
         let grades = generate::read(&draft).grades();
         let start = random.below(grades) as u8;
-        let table = filled(marks, start, &book, 2 * grades + 1).unwrap();
+        let table = filled(batch, start, &book, 2 * grades + 1).unwrap();
         for end in 0..grades {
             let mut lineup = [0; LINEUP_AREA];
             let entry = match plan::plan(&book, known, start, end as u8, &mut lineup).unwrap() {
@@ -125,7 +133,7 @@ fn entries_are_single_plans() {
 /// none, and how many lie beyond a line-up that comes back to a grade.
 fn compare_with_exhaustive(draft: &Draft, marks: u16) -> (usize, usize) {
     let book = generate::read(draft);
-    let runs = binding::known_runs(&book, marks);
+    let runs = generate::runs_of(&book, batch(marks));
     let (mut none, mut comes_back) = (0, 0);
     for start in 0..book.grades() as u8 {
         let plans = exhaustive::ends_first(&book.changeovers, &runs, start);

@@ -4,12 +4,14 @@
 use second::any_inputs::begun_on_book_a;
 use second::binding::RUNS_AREA;
 use second::calls::{Call, Case};
+use second::dates::Date;
 use second::faults::faults;
 use second::inputs;
 use second::kinds::{Kind, KINDS};
 use second::plan::LINEUP_AREA;
 use second::random::Random;
 use second::refusal::Refusal;
+use second::samples;
 use second::trials::Record;
 
 const CALLS: [Call; 6] =
@@ -40,7 +42,7 @@ fn each_fault_has_its_refusal() {
     }
 }
 
-/// 8 comes before 7, 7 before 9, and 9 before 10, 11 and 12.
+/// 8 comes before 7, 7 before 15 and 9, and 9 before 10, 11 and 12.
 #[test]
 fn refusals_come_in_their_order() {
     let good = begun_on_book_a();
@@ -58,10 +60,19 @@ fn refusals_come_in_their_order() {
     for call in [Call::Check, Call::Plan, Call::Passed, Call::Failed] {
         assert_eq!(first(&case, call), "REFUSED 9");
     }
+    // Binding and begin do without known runs: their 15 stands where 9 does.
+    case.batch.date = Date::new(31, 6, 2026);
+    for call in [Call::Bind, Call::Begin] {
+        assert_eq!(first(&case, call), "REFUSED 15");
+    }
+    for call in [Call::Check, Call::Plan, Call::Passed, Call::Failed] {
+        assert_eq!(first(&case, call), "REFUSED 9");
+    }
     case.record.end = 4;
     for call in [Call::Plan, Call::Begin] {
         assert_eq!(first(&case, call), "REFUSED 7");
     }
+    assert_eq!(first(&case, Call::Bind), "REFUSED 15");
     assert_eq!(first(&case, Call::Passed), "REFUSED 9");
     case.runs.pop();
     for call in CALLS {
@@ -70,6 +81,10 @@ fn refusals_come_in_their_order() {
     case.book.pop();
     for call in CALLS {
         assert_eq!(first(&case, call), "REFUSED 1 AT 75");
+    }
+    case.book = samples::book_a_in([31, 6, 1, 7]).bytes();
+    for call in CALLS {
+        assert_eq!(first(&case, call), "REFUSED 14 AT 70");
     }
 }
 

@@ -1,9 +1,10 @@
 //! The generator and the vectors: deterministic, of the promised sizes, and
 //! with every answer among them.
 
-use second::binding;
+use second::binding::{self, Batch};
 use second::book;
 use second::calls::Call;
+use second::dates::Date;
 use second::exhaustive;
 use second::frames;
 use second::generate;
@@ -50,7 +51,7 @@ fn speed_inputs_are_there() {
         assert!(printed.starts_with("LITRES "), "{name}: {printed}");
     }
     assert_eq!(samples::speed_input("other", 1), None);
-    assert_eq!(samples::speed_input("largest", 1).map(|input| input.len()), Some(39_192));
+    assert_eq!(samples::speed_input("largest", 1).map(|input| input.len()), Some(39_260));
 }
 
 #[test]
@@ -120,7 +121,7 @@ fn inputs_at_the_limits_have_their_lengths() {
     for index in 0..20 {
         let input = Source::LargestPlans.case(1, index);
         assert_eq!(input.len(), large::LONGEST_INPUT);
-        let book = book::read(&input[4..]).unwrap();
+        let book = book::read(&input[8..]).unwrap();
         assert_eq!((book.grades(), book.changeovers.count(), book.runs()), (64, 4_032, 256));
         let printed = Kind::Plan.run(&input);
         assert!(printed.starts_with("LITRES "), "{printed}");
@@ -128,7 +129,7 @@ fn inputs_at_the_limits_have_their_lengths() {
     }
     assert!(changes.iter().filter(|&&grades| grades > 4).count() > 5, "{changes:?}");
     let lengths: Vec<usize> = (0..6).map(|i| Source::LongPlans.case(1, i).len()).collect();
-    for length in [39_192, 65_535, 65_536, 65_537, 131_072] {
+    for length in [39_260, 39_261, 65_535, 65_536, 65_537, 131_072] {
         assert!(lengths.contains(&length), "{lengths:?}");
     }
     assert!(Kind::Plan.run(&Source::LongPlans.case(1, 0)).starts_with("LITRES "));
@@ -138,7 +139,7 @@ fn inputs_at_the_limits_have_their_lengths() {
         assert_eq!(Kind::Board.run(&input).lines().count(), 64);
     }
     let lengths: Vec<usize> = (0..6).map(|i| Source::LongBoards.case(1, i).len()).collect();
-    for length in [39_191, 39_192, 65_535, 65_536, 65_537, 131_072] {
+    for length in [39_259, 39_260, 65_535, 65_536, 65_537, 131_072] {
         assert!(lengths.contains(&length), "{lengths:?}");
     }
     assert_eq!(Kind::Board.run(&Source::LongBoards.case(1, 0)).lines().count(), 64);
@@ -154,7 +155,7 @@ fn vectors_hold_the_settled_sums() {
         (2, "LITRES 300 CHANGES 3\n0 1 2 3\n"),
         (3, "LITRES 450 CHANGES 5\n0 1 2 1 2 3\n"),
     ] {
-        let input = inputs::plan_input(marks, 0, 3, &samples::book_a().bytes());
+        let input = inputs::plan_input(samples::batch(marks), 0, 3, &samples::book_a().bytes());
         assert!(plan.contains(&input));
         assert_eq!(Kind::Plan.run(&input), answer);
     }
@@ -186,12 +187,14 @@ fn vectors_hold_the_plans_of_another_planner() {
 /// What `plan` prints for an input that is not refused.
 fn planned_best_first(input: &[u8]) -> Option<String> {
     match input {
-        [high, low, start, end, bytes @ ..] => {
+        [high, low, start, end, day, month, century, year, bytes @ ..] => {
             let book = book::read(bytes).ok()?;
             if usize::from(*start.max(end)) >= book.grades() {
                 return None;
             }
-            let runs = binding::known_runs(&book, u16::from_be_bytes([*high, *low]));
+            let date = Date::new(*day, *month, u16::from_be_bytes([*century, *year]));
+            let batch = Batch { marks: u16::from_be_bytes([*high, *low]), date };
+            let runs = binding::known_runs(&book, batch).ok()?;
             let plan = exhaustive::best_first(&book.changeovers, &runs, *start, *end);
             Some(text::plan(plan.as_ref()))
         }

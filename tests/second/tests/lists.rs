@@ -1,7 +1,6 @@
 //! Planning from lists: the frames of `plan_list`, its cases, and the programs
 //! that take them.
 
-use second::generate;
 use second::inputs;
 use second::list_inputs;
 use second::lists::{self, List};
@@ -60,7 +59,8 @@ fn frames_are_read_as_their_format_says() {
 #[test]
 fn book_a_is_planned_from_its_list() {
     let answer = |marks, start, end| {
-        lists::run_frame(&list_inputs::list_of(&samples::book_a(), marks, start, end).bytes())
+        let batch = samples::batch(marks);
+        lists::run_frame(&list_inputs::list_of(&samples::book_a(), batch, start, end).bytes())
     };
     assert_eq!(answer(0, 0, 3), "LITRES 300 CHANGES 3\n0 1 2 3\n");
     assert_eq!(answer(1, 0, 3), "LITRES 350 CHANGES 2\n0 2 3\n");
@@ -79,11 +79,11 @@ fn a_list_plans_as_its_book() {
         let random = &mut Random::new(&[17, index]);
         let scene = inputs::any_scene(random);
         let (start, end) = inputs::terminals(random, &scene);
-        let marks = generate::batch_marks(random);
-        let mut list = list_inputs::list_of(&scene.draft, marks, start, end);
+        let batch = inputs::good_batch(random, &scene.draft);
+        let mut list = list_inputs::list_of(&scene.draft, batch, start, end);
         random.shuffle(&mut list.items);
         let from_list = lists::run_frame(&list.bytes());
-        let book = inputs::plan_input(marks, start, end, &scene.draft.bytes());
+        let book = inputs::plan_input(batch, start, end, &scene.draft.bytes());
         assert_eq!(from_list, programs::plan(&book), "index {index}");
         planned += u32::from(from_list.starts_with("LITRES"));
     }

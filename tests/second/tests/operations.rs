@@ -1,9 +1,10 @@
 //! Binding, the check and both forms of planning: answers, every byte of the
 //! areas, and the order of refusals.
 
-use second::binding::{self, RUNS_AREA};
+use second::binding::{self, Batch, RUNS_AREA};
 use second::changeovers::Changeover;
 use second::check::{self, Found};
+use second::dates::Date;
 use second::draft::Draft;
 use second::generate;
 use second::inputs;
@@ -12,7 +13,7 @@ use second::plan::{self, Answer, Known, LINEUP_AREA};
 use second::programs;
 use second::random::Random;
 use second::refusal::Refusal;
-use second::samples;
+use second::samples::{self, batch};
 
 const BAD_BOOK: &[u8] = &[1, 0, 1, 0];
 
@@ -51,7 +52,7 @@ fn binding_takes_all_binding_sheets_together() {
         (0xffff, &[&[0, 1], &[1, 2], &[4, 3], &[2, 3]]),
     ] {
         let mut area = vec![0x55; RUNS_AREA + 1];
-        assert_eq!(binding::bind(&book, marks, &mut area), Ok(runs.len()));
+        assert_eq!(binding::bind(&book, batch(marks), &mut area), Ok(runs.len()));
         assert_eq!(area[..RUNS_AREA], area_of(runs));
         assert_eq!(area[RUNS_AREA], 0x55);
     }
@@ -68,7 +69,7 @@ fn runs_that_come_back_are_bound_and_found() {
         .run(&[1, 2, 1, 2, 3])
         .bytes();
     let mut area = vec![0x55; RUNS_AREA];
-    assert_eq!(binding::bind(&book, 0, &mut area), Ok(3));
+    assert_eq!(binding::bind(&book, batch(0), &mut area), Ok(3));
     assert_eq!(area, area_of(&[&[1, 2, 1], &[1, 1], &[1, 2, 1, 2, 3]]));
     let found = |lineup: &[u8]| check::check(&book, &area, 3, lineup);
     assert_eq!(found(&[0, 1, 2, 1, 2, 3]), Ok(Some(Found { place: 1, length: 3 })));
@@ -79,10 +80,16 @@ fn runs_that_come_back_are_bound_and_found() {
 #[test]
 fn binding_refuses_and_writes_nothing() {
     let book = samples::book_a().bytes();
-    let mut short = vec![0x55; RUNS_AREA - 1];
-    assert_eq!(binding::bind(&book, 3, &mut short), plain(8));
-    assert_eq!(binding::bind(BAD_BOOK, 3, &mut short), Err(Refusal::at(4, 0)));
-    assert!(short.iter().all(|&byte| byte == 0x55));
+    let bad_window = samples::book_a_in([0, 5, 15, 9]).bytes();
+    let mut area = vec![0x55; RUNS_AREA];
+    for batch in [batch(3), samples::bad_batch()] {
+        let short = &mut area[1..];
+        assert_eq!(binding::bind(&book, batch, short), plain(8));
+        assert_eq!(binding::bind(BAD_BOOK, batch, short), Err(Refusal::at(4, 0)));
+        assert_eq!(binding::bind(&bad_window, batch, short), Err(Refusal::at(14, 70)));
+    }
+    assert_eq!(binding::bind(&book, samples::bad_batch(), &mut area), plain(15));
+    assert!(area.iter().all(|&byte| byte == 0x55));
 }
 
 #[test]
@@ -283,17 +290,25 @@ fn all_forms_of_planning_agree() {
     let mut planned = 0;
     for index in 0..1_500 {
         let input = inputs::case(Kind::Plan, 11, index);
-        if input.len() < 4 {
+        if input.len() < 8 {
             continue;
         }
         let marks = u16::from_be_bytes([input[0], input[1]]);
-        let (start, end, bytes) = (input[2], input[3], &input[4..]);
+        let year = u16::from_be_bytes([input[6], input[7]]);
+        let batch = Batch { marks, date: Date::new(input[4], input[5], year) };
+        let (start, end, bytes) = (input[2], input[3], &input[8..]);
         let book = match second::book::read(bytes) {
             Ok(book) => book,
             Err(_) => continue,
         };
         let mut runs_area = vec![0x55; RUNS_AREA];
-        let count = binding::bind(bytes, marks, &mut runs_area).unwrap();
+        let count = match binding::bind(bytes, batch, &mut runs_area) {
+            Ok(count) => count,
+            Err(refusal) => {
+                assert_eq!((refusal.number, batch.date.is_good()), (15, false));
+                continue;
+            }
+        };
         let known = Known { area: &runs_area, count };
         let mut items = book.changeovers.list();
         Random::new(&[index]).shuffle(&mut items);
@@ -319,9 +334,9 @@ fn all_forms_of_planning_agree() {
 fn the_program_plan_refuses() {
     let book = samples::book_a().bytes();
     let printed =
-        |start, end, book: &[u8]| programs::plan(&inputs::plan_input(3, start, end, book));
-    for length in 0..=3 {
-        assert_eq!(programs::plan(&[0, 3, 0][..length]), "REFUSED 1 AT 0\n");
+        |start, end, book: &[u8]| programs::plan(&inputs::plan_input(batch(3), start, end, book));
+    for length in 0..=7 {
+        assert_eq!(programs::plan(&[0, 3, 0, 3, 1, 7, 7][..length]), "REFUSED 1 AT 0\n");
     }
     assert_eq!(printed(0, 3, &[]), "REFUSED 1 AT 0\n");
     assert_eq!(printed(4, 0, &book), "REFUSED 7\n");
@@ -336,7 +351,7 @@ fn the_program_plan_refuses() {
 fn check_lineup_prints() {
     let book = samples::book_a().bytes();
     let printed = |marks, lineup: &[u8]| {
-        programs::check_lineup(&inputs::check_lineup_input(marks, lineup, &book))
+        programs::check_lineup(&inputs::check_lineup_input(batch(marks), lineup, &book))
     };
     assert_eq!(printed(3, &[0, 1, 2, 1, 2, 3]), "CLEAR\n");
     assert_eq!(printed(3, &[0, 1, 2, 3]), "RUN AT 0 LENGTH 4\n");
@@ -344,10 +359,9 @@ fn check_lineup_prints() {
     assert_eq!(printed(2, &[0, 2, 3]), "RUN AT 0 LENGTH 3\n");
     assert_eq!(printed(2, &[]), "REFUSED 10\n");
     assert_eq!(printed(2, &[3, 0]), "REFUSED 10\n");
-    let whole = inputs::check_lineup_input(3, &[0, 1], &book);
-    for length in 0..6 {
+    let whole = inputs::check_lineup_input(batch(3), &[0, 1], &book);
+    for length in 0..=10 {
         assert_eq!(programs::check_lineup(&whole[..length]), "REFUSED 1 AT 0\n");
     }
-    assert_eq!(programs::check_lineup(&whole[..6]), "REFUSED 1 AT 0\n");
-    assert_eq!(programs::check_lineup(&whole[..14]), "REFUSED 1 AT 4\n");
+    assert_eq!(programs::check_lineup(&whole[..18]), "REFUSED 1 AT 4\n");
 }

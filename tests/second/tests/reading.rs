@@ -8,6 +8,7 @@ use second::programs;
 use second::random::Random;
 use second::refusal::Refusal;
 use second::samples;
+use second::seasons;
 
 fn refused(bytes: &[u8]) -> (u8, usize) {
     match book::read(bytes) {
@@ -50,6 +51,7 @@ fn head_under_3_bytes() {
 fn body_under_its_length() {
     assert_eq!(refused(&after_count(&[2, 0, 6, 0, 1, 0, 0, 0])), (1, 4));
     assert_eq!(refused(&after_count(&[3, 0, 2, 0])), (1, 4));
+    assert_eq!(refused(&after_count(&[3, 0, 6, 0, 0, 1, 5, 15])), (1, 4));
     // Before the values are looked at.
     assert_eq!(refused(&after_count(&[3, 0, 2, 0, 0, 4, 0, 3, 9, 9])), (1, 9));
 }
@@ -81,7 +83,7 @@ fn lengths() {
     for length in [0, 5, 7] {
         assert_eq!(refused(&after_count(&[2, 0, length])), (3, 4));
     }
-    for length in [0, 1, 3] {
+    for length in [0, 1, 3, 4, 5, 7, 8] {
         assert_eq!(refused(&after_count(&[3, 0, length])), (3, 4));
     }
     for length in [0, 1, 9, 255] {
@@ -159,13 +161,18 @@ fn the_first_bad_field_decides() {
 
 #[test]
 fn the_longest_book() {
-    let longest = generate::largest(&mut Random::new(&[1]));
-    let bytes = longest.bytes();
-    assert_eq!(bytes.len(), 39_188);
-    assert_eq!(counts(&longest), (64, 4_032, 16, 256));
-    assert_eq!(refused(&[bytes, vec![4]].concat()), (1, 39_188));
-    assert_eq!(refused(&longest.clone().sheet(0).bytes()), (6, 39_188));
-    assert_eq!(refused(&longest.run(&[0, 1]).bytes()), (6, 39_188));
+    let random = &mut Random::new(&[1]);
+    let without = generate::largest(random);
+    let longest = seasons::all_with_windows(random, without.clone());
+    for (draft, length) in [(without, 39_188), (longest, 39_252)] {
+        let bytes = draft.bytes();
+        assert_eq!(bytes.len(), length);
+        assert_eq!(counts(&draft), (64, 4_032, 16, 256));
+        assert_eq!(refused(&[bytes, vec![4]].concat()), (1, length));
+        assert_eq!(refused(&draft.clone().sheet(0).bytes()), (6, length));
+        assert_eq!(refused(&draft.clone().season(0, [30, 2, 1, 1]).bytes()), (14, length));
+        assert_eq!(refused(&draft.run(&[0, 1]).bytes()), (6, length));
+    }
 }
 
 /// Book A cut at every byte: whole fields read, everything else is 1 at the

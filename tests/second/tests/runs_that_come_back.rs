@@ -2,11 +2,12 @@
 //! come back to a grade, enough of these runs change the answer, and the vectors
 //! hold the chosen sums.
 
-use second::binding;
+use second::binding::{self, Batch};
 use second::book::{self, Run};
 use second::calls::{Call, Case};
 use second::changeovers::Changeovers;
 use second::check;
+use second::dates::Date;
 use second::generate::comes_back;
 use second::inputs;
 use second::kinds::Kind;
@@ -51,9 +52,9 @@ impl Question {
         good.then_some(Question { changeovers, runs, start, end })
     }
 
-    fn of_book(bytes: &[u8], marks: [u8; 2], start: u8, end: Option<u8>) -> Option<Question> {
+    fn of_book(bytes: &[u8], batch: Batch, start: u8, end: Option<u8>) -> Option<Question> {
         let book = book::read(bytes).ok()?;
-        let runs = binding::known_runs(&book, u16::from_be_bytes(marks));
+        let runs = binding::known_runs(&book, batch).ok()?;
         Question::new(book.changeovers, runs, start, end)
     }
 
@@ -87,10 +88,16 @@ impl Question {
     }
 }
 
+/// Marks, day, month and year, as inputs have them.
+fn batch([a, b, day, month, c, d]: [u8; 6]) -> Batch {
+    let date = Date { day, month, year: u16::from_be_bytes([c, d]) };
+    Batch { marks: u16::from_be_bytes([a, b]), date }
+}
+
 fn plan_question(input: &[u8]) -> Option<Question> {
     match input {
-        [high, low, start, end, bytes @ ..] => {
-            Question::of_book(bytes, [*high, *low], *start, Some(*end))
+        [a, b, start, end, c, d, e, f, bytes @ ..] => {
+            Question::of_book(bytes, batch([*a, *b, *c, *d, *e, *f]), *start, Some(*end))
         }
         _ => None,
     }
@@ -98,7 +105,9 @@ fn plan_question(input: &[u8]) -> Option<Question> {
 
 fn board_question(input: &[u8]) -> Option<Question> {
     match input {
-        [high, low, start, bytes @ ..] => Question::of_book(bytes, [*high, *low], *start, None),
+        [a, b, start, c, d, e, f, bytes @ ..] => {
+            Question::of_book(bytes, batch([*a, *b, *c, *d, *e, *f]), *start, None)
+        }
         _ => None,
     }
 }
@@ -239,11 +248,12 @@ fn found(book: &[u8], area: &[u8], known: u64, lineup: &[u8]) -> Option<Run> {
 }
 
 fn found_by_check_lineup(input: &[u8]) -> Option<Run> {
-    let (marks, rest) = (input.get(..2)?, input.get(4..)?);
-    let length = usize::from(u16::from_be_bytes([input[2], input[3]]));
+    let (head, rest) = (input.get(..8)?, input.get(8..)?);
+    let length = usize::from(u16::from_be_bytes([head[6], head[7]]));
     let (lineup, book) = (rest.get(..length)?, rest.get(length..)?);
     let mut area = vec![0; binding::RUNS_AREA];
-    let known = binding::bind(book, u16::from_be_bytes([marks[0], marks[1]]), &mut area).ok()?;
+    let batch = batch([head[0], head[1], head[2], head[3], head[4], head[5]]);
+    let known = binding::bind(book, batch, &mut area).ok()?;
     found(book, &area, known as u64, lineup)
 }
 
@@ -268,13 +278,13 @@ fn the_check_finds_runs_that_come_back() {
 
 /// The named runs of a replay that are accepted, and those that 12 refuses.
 fn named_runs(input: &[u8]) -> Option<(Vec<Run>, Vec<Run>)> {
-    let length =
-        u32::from_be_bytes([*input.get(4)?, *input.get(5)?, *input.get(6)?, *input.get(7)?]);
-    let book = input[8..].get(..length as usize)?;
-    let marks = u16::from_be_bytes([input[0], input[1]]);
-    let mut trials = Trials::begin(book, marks, input[2], input[3]).ok()?;
+    let head = input.get(..12)?;
+    let length = u32::from_be_bytes([head[8], head[9], head[10], head[11]]);
+    let book = input[12..].get(..length as usize)?;
+    let batch = batch([head[0], head[1], head[4], head[5], head[6], head[7]]);
+    let mut trials = Trials::begin(book, batch, head[2], head[3]).ok()?;
     let (mut accepted, mut refused) = (Vec::new(), Vec::new());
-    let mut reports = &input[8 + book.len()..];
+    let mut reports = &input[12 + book.len()..];
     loop {
         match reports {
             [0, rest @ ..] => {
@@ -335,7 +345,7 @@ fn runs_read(input: &[u8]) -> Option<Vec<Run>> {
 /// The runs that binding or begin binds.
 fn runs_bound(input: &[u8]) -> Option<Vec<Run>> {
     let case = Case::read(input).ok()?;
-    Some(binding::known_runs(&book::read(&case.book).ok()?, case.marks))
+    binding::known_runs(&book::read(&case.book).ok()?, case.batch).ok()
 }
 
 /// The known runs that a call takes.
@@ -347,8 +357,8 @@ fn runs_taken(input: &[u8]) -> Option<Vec<Run>> {
 fn books_and_areas_hold_runs_that_come_back() {
     for (kind, runs_of, least) in [
         (Kind::ReadBook, runs_read as fn(&[u8]) -> Option<Vec<Run>>, [500, 200, 300]),
-        (Kind::Any(Call::Bind), runs_bound, [800, 350, 300]),
-        (Kind::Any(Call::Begin), runs_bound, [800, 350, 300]),
+        (Kind::Any(Call::Bind), runs_bound, [750, 310, 280]),
+        (Kind::Any(Call::Begin), runs_bound, [750, 310, 280]),
         (Kind::Any(Call::Passed), runs_taken, [600, 300, 250]),
         (Kind::Any(Call::Failed), runs_taken, [600, 300, 250]),
     ] {
@@ -367,7 +377,7 @@ fn vectors_hold_the_chosen_plans() {
     let stored = vectors::cases(Kind::Plan, 1);
     let answers = samples::books_with_runs_that_come_back().map(|draft| {
         [0, 1, 2, 3].map(|marks| {
-            let input = inputs::plan_input(marks, 0, 3, &draft.bytes());
+            let input = inputs::plan_input(samples::batch(marks), 0, 3, &draft.bytes());
             assert!(stored.contains(&input));
             Kind::Plan.run(&input)
         })
@@ -382,7 +392,7 @@ fn vectors_hold_the_chosen_plans() {
 /// And the chosen trials: on book A named 1 2 1, then 1 3, then 2 1 2.
 #[test]
 fn vectors_hold_the_chosen_trials() {
-    let mut input = inputs::replay_input(3, 0, 3, &samples::book_a().bytes());
+    let mut input = inputs::replay_input(samples::batch(3), 0, 3, &samples::book_a().bytes());
     for named in [&[1, 2, 1][..], &[1, 3], &[2, 1, 2]] {
         input.extend(inputs::failed_bytes(named));
     }

@@ -1,8 +1,9 @@
 //! 01's settled sums, their values typed from the paper, and sums with runs that
 //! come back (order 2 of 02).
 
-use second::binding::{self, RUNS_AREA};
+use second::binding::{self, Batch, RUNS_AREA};
 use second::book;
+use second::dates::Date;
 use second::plan::{self, Answer, Known, LINEUP_AREA};
 use second::programs::{self, Report, Trials};
 use second::refusal::Refusal;
@@ -34,18 +35,36 @@ const TIES: &[u8] = &[
 /// 0 to 3 at 200.
 const SHORT_WAY: &[u8] = &[0x02, 0x00, 0x06, 0x00, 0x03, 0x00, 0x00, 0x00, 0xC8];
 
-/// What the program prints, and the same through binding and planning.
-fn planned(marks: u16, start: u8, end: u8, book: &[u8]) -> String {
-    let input = [&marks.to_be_bytes()[..], &[start, end], book].concat();
-    let printed = programs::plan(&input);
-    assert_eq!(printed, planned_by_operations(marks, start, end, book));
-    printed
+/// Days, months and years with their bytes: 1 January 1900, 29 February 2000, 1 July
+/// 2026 and 31 December 2199.
+const DATES: [(Date, [u8; 4]); 4] = [
+    (Date::new(1, 1, 1900), [0x01, 0x01, 0x07, 0x6C]),
+    (Date::new(29, 2, 2000), [0x1D, 0x02, 0x07, 0xD0]),
+    (Date::new(1, 7, 2026), [0x01, 0x07, 0x07, 0xEA]),
+    (Date::new(31, 12, 2199), [0x1F, 0x0C, 0x08, 0x97]),
+];
+
+/// A batch of 1 July 2026.
+fn batch(marks: u16) -> Batch {
+    Batch { marks, date: Date::new(1, 7, 2026) }
 }
 
-fn planned_by_operations(marks: u16, start: u8, end: u8, book: &[u8]) -> String {
+/// What the program prints, and the same through binding and planning, on every date.
+fn planned(marks: u16, start: u8, end: u8, book: &[u8]) -> String {
+    let answers = DATES.map(|(date, bytes)| {
+        let input = [&marks.to_be_bytes()[..], &[start, end], &bytes, book].concat();
+        let printed = programs::plan(&input);
+        assert_eq!(printed, planned_by_operations(Batch { marks, date }, start, end, book));
+        printed
+    });
+    assert!(answers.iter().all(|answer| *answer == answers[0]));
+    answers[0].clone()
+}
+
+fn planned_by_operations(batch: Batch, start: u8, end: u8, book: &[u8]) -> String {
     let mut runs_area = [0xAA; RUNS_AREA];
     let mut lineup_area = [0xBB; LINEUP_AREA];
-    let count = binding::bind(book, marks, &mut runs_area).unwrap();
+    let count = binding::bind(book, batch, &mut runs_area).unwrap();
     let known = Known { area: &runs_area, count };
     match plan::plan(book, known, start, end, &mut lineup_area).unwrap() {
         None => {
@@ -82,7 +101,7 @@ fn marks_3() {
 
 #[test]
 fn trials_from_marks_3() {
-    let mut trials = Trials::begin(BOOK_A, 3, 0, 3).unwrap();
+    let mut trials = Trials::begin(BOOK_A, batch(3), 0, 3).unwrap();
     assert_eq!(
         trials.text(),
         "STAGE 0 START 0 END 3 KNOWN 2 AT-START 2 FAILED 0 PASSED 0 LITRES 450 LENGTH 6\n0 1 2 1 2 3\n"
@@ -101,7 +120,7 @@ fn trials_from_marks_3() {
 /// Of the two line-ups at 500 litres, 0 1 3 has the fewer changeovers.
 #[test]
 fn a_named_run_that_comes_back() {
-    let mut trials = Trials::begin(BOOK_A, 3, 0, 3).unwrap();
+    let mut trials = Trials::begin(BOOK_A, batch(3), 0, 3).unwrap();
     assert_eq!(
         trials.report(Report::Failed(&[1, 2, 1])),
         "STAGE 0 START 0 END 3 KNOWN 3 AT-START 2 FAILED 1 PASSED 0 LITRES 500 LENGTH 3\n0 1 3\n"
@@ -169,7 +188,7 @@ fn runs_of_1_and_9_grades() {
     assert_eq!(with(&[0, 1, 2, 3, 4, 5, 6, 7, 8]), Err(Refusal::at(3, 9)));
 }
 
-/// The listing of 01 with its exact output.
+/// The listing of 01 with its exact output, with any good date after the end grade.
 #[test]
 fn the_listing() {
     let input = "00 03 00 03, 01 00 01 04, 02 00 06 00 01 00 00 00 64, 02 00 06 01 02 00 00 00 64, \
@@ -181,8 +200,12 @@ fn the_listing() {
         .split(' ')
         .map(|byte| u8::from_str_radix(byte, 16).unwrap())
         .collect();
-    assert_eq!(programs::plan(&bytes), "LITRES 450 CHANGES 5\n0 1 2 1 2 3\n");
-    assert_eq!(&bytes[4..], BOOK_A);
+    let (head, book) = bytes.split_at(4);
+    assert_eq!(book, BOOK_A);
+    for (_, date) in DATES {
+        let printed = programs::plan(&[head, &date, book].concat());
+        assert_eq!(printed, "LITRES 450 CHANGES 5\n0 1 2 1 2 3\n");
+    }
 }
 
 /// Book A binds 0, 1, 1 and 2 runs for marks 0, 1, 2 and 3.
@@ -195,7 +218,7 @@ fn book_a_binds() {
         (3, &[4, 0, 1, 2, 3, 0, 0, 0, 0, 3, 0, 2, 3, 0, 0, 0, 0, 0]),
     ] {
         let mut area = [0xAA; RUNS_AREA + 3];
-        let count = binding::bind(BOOK_A, marks, &mut area).unwrap();
+        let count = binding::bind(BOOK_A, batch(marks), &mut area).unwrap();
         assert_eq!(count, entries.len() / 9);
         assert_eq!(&area[..entries.len()], entries);
         assert!(area[entries.len()..RUNS_AREA].iter().all(|&byte| byte == 0));

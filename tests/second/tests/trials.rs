@@ -1,7 +1,7 @@
 //! Trials: the three rules with every byte of both areas, each refusal under
 //! its condition, and 01's claims over whole lists of reports.
 
-use second::binding::RUNS_AREA;
+use second::binding::{Batch, RUNS_AREA};
 use second::check;
 use second::draft::Draft;
 use second::exhaustive;
@@ -11,7 +11,8 @@ use second::plan::LINEUP_AREA;
 use second::programs::{self, Report, Trials};
 use second::random::Random;
 use second::refusal::Refusal;
-use second::samples;
+use second::samples::{self, batch};
+use second::seasons;
 use second::trials::{self, Record, NONE, PASSED, STANDS};
 use std::collections::HashSet;
 
@@ -29,10 +30,10 @@ struct State {
     lineup_area: Vec<u8>,
 }
 
-fn begun(book: &[u8], marks: u16, start: u8, end: u8) -> State {
+fn begun(book: &[u8], batch: Batch, start: u8, end: u8) -> State {
     let mut runs_area = vec![0x55; RUNS_AREA + 2];
     let mut lineup_area = vec![0x66; LINEUP_AREA + 2];
-    let record = trials::begin(book, marks, start, end, &mut runs_area, &mut lineup_area).unwrap();
+    let record = trials::begin(book, batch, start, end, &mut runs_area, &mut lineup_area).unwrap();
     State { record, runs_area, lineup_area }
 }
 
@@ -53,7 +54,7 @@ impl State {
 
 #[test]
 fn begin_fills_both_areas() {
-    let state = begun(&samples::book_a().bytes(), 3, 0, 3);
+    let state = begun(&samples::book_a().bytes(), batch(3), 0, 3);
     let record = Record {
         stage: 0,
         start: 0,
@@ -75,7 +76,7 @@ fn begin_fills_both_areas() {
 
 #[test]
 fn begin_with_none_fills_the_runs_area_alone() {
-    let state = begun(&samples::book_a().bytes(), 3, 3, 0);
+    let state = begun(&samples::book_a().bytes(), batch(3), 3, 0);
     assert_eq!((state.record.stage, state.record.length, state.record.litres), (2, 0, 0));
     assert_eq!(state.entry(0), [4, 0, 1, 2, 3, 0, 0, 0, 0]);
     assert!(state.lineup_area.iter().all(|&byte| byte == 0x66));
@@ -86,13 +87,19 @@ fn begin_refuses_in_order_and_writes_nothing() {
     let book = samples::book_a().bytes();
     let mut runs_area = vec![0x55; RUNS_AREA];
     let mut lineup_area = vec![0x66; LINEUP_AREA];
-    let mut refused = |book: &[u8], end, runs_from: usize, lineup_from: usize| {
-        trials::begin(book, 3, 0, end, &mut runs_area[runs_from..], &mut lineup_area[lineup_from..])
+    let mut refused = |book: &[u8], batch, end, runs_from: usize, lineup_from: usize| {
+        let (runs, lineup) = (&mut runs_area[runs_from..], &mut lineup_area[lineup_from..]);
+        trials::begin(book, batch, 0, end, runs, lineup)
     };
-    assert_eq!(refused(BAD_BOOK, 9, 1, 1), Err(Refusal::at(4, 0)));
-    assert_eq!(refused(&book, 9, 1, 0), plain(8));
-    assert_eq!(refused(&book, 9, 0, 1), plain(8));
-    assert_eq!(refused(&book, 4, 0, 0), plain(7));
+    let bad_window = samples::book_a_in([1, 5, 31, 9]).bytes();
+    for batch in [batch(3), samples::bad_batch()] {
+        assert_eq!(refused(BAD_BOOK, batch, 9, 1, 1), Err(Refusal::at(4, 0)));
+        assert_eq!(refused(&bad_window, batch, 9, 1, 1), Err(Refusal::at(14, 70)));
+        assert_eq!(refused(&book, batch, 9, 1, 0), plain(8));
+        assert_eq!(refused(&book, batch, 3, 0, 1), plain(8));
+        assert_eq!(refused(&book, batch, 4, 0, 0), plain(7));
+    }
+    assert_eq!(refused(&book, samples::bad_batch(), 3, 0, 0), plain(15));
     assert!(runs_area.iter().all(|&byte| byte == 0x55));
     assert!(lineup_area.iter().all(|&byte| byte == 0x66));
 }
@@ -100,7 +107,7 @@ fn begin_refuses_in_order_and_writes_nothing() {
 #[test]
 fn a_passed_report_moves_the_record_alone() {
     let book = samples::book_a().bytes();
-    let state = begun(&book, 3, 0, 3);
+    let state = begun(&book, batch(3), 0, 3);
     let record = state.passed(&book).unwrap();
     assert_eq!(record, Record { stage: 1, passed: 1, ..state.record });
     assert_eq!(record.trials(), 1);
@@ -109,7 +116,7 @@ fn a_passed_report_moves_the_record_alone() {
 #[test]
 fn a_failed_report_plans_anew_and_keeps_the_bytes_after() {
     let book = samples::book_a().bytes();
-    let mut state = begun(&book, 3, 0, 3);
+    let mut state = begun(&book, batch(3), 0, 3);
     state.record = state.failed(&book, &[1, 2, 3]).unwrap();
     assert_eq!(state.entry(2), [3, 1, 2, 3, 0, 0, 0, 0, 0]);
     assert!(state.runs_area[27..RUNS_AREA].iter().all(|&byte| byte == 0));
@@ -136,7 +143,7 @@ fn assert_both_refused(state: &State, book: &[u8], named: &[u8], refusal: Refusa
 #[test]
 fn reports_refuse_1_to_6_then_8_then_9_then_11() {
     let book = samples::book_a().bytes();
-    let good = begun(&book, 3, 0, 3);
+    let good = begun(&book, batch(3), 0, 3);
     let mut bad = good.clone();
     bad.record.stage = 3;
     let mut short = bad.clone();
@@ -150,14 +157,14 @@ fn reports_refuse_1_to_6_then_8_then_9_then_11() {
     let mut over = good.clone();
     over.record = over.passed(&book).unwrap();
     assert_both_refused(&over, &book, &[], Refusal::plain(11));
-    let none = begun(&book, 3, 3, 0);
+    let none = begun(&book, batch(3), 3, 0);
     assert_both_refused(&none, &book, &[0, 1], Refusal::plain(11));
 }
 
 /// Changes one thing in the state after a failed report and expects 9.
 fn assert_9(change: impl Fn(&mut State)) {
     let book = samples::book_a().bytes();
-    let mut state = begun(&book, 3, 0, 3);
+    let mut state = begun(&book, batch(3), 0, 3);
     state.record = state.failed(&book, &[1, 2, 3]).unwrap();
     assert!(state.passed(&book).is_ok());
     let before = state.clone();
@@ -210,7 +217,7 @@ fn every_condition_of_9_on_a_record() {
     });
     // Passed, with all of these right, is no 9 but 11.
     let book = samples::book_a().bytes();
-    let mut state = begun(&book, 3, 0, 3);
+    let mut state = begun(&book, batch(3), 0, 3);
     (state.record.stage, state.record.passed) = (PASSED, 1);
     assert_both_refused(&state, &book, &[], Refusal::plain(11));
 }
@@ -219,7 +226,7 @@ fn every_condition_of_9_on_a_record() {
 fn records_that_no_9_is_for() {
     let book = samples::book_a().bytes();
     // A line-up that is valid but not the least: 0 2 1 2 3.
-    let mut state = begun(&book, 3, 0, 3);
+    let mut state = begun(&book, batch(3), 0, 3);
     state.lineup_area[..5].copy_from_slice(&[0, 2, 1, 2, 3]);
     (state.record.length, state.record.litres) = (5, 500);
     assert!(state.passed(&book).is_ok());
@@ -227,18 +234,18 @@ fn records_that_no_9_is_for() {
     assert_eq!((record.stage, record.litres, record.known), (0, 500, 3));
     assert_eq!(state.lineup_area[..5], [0, 1, 3, 2, 3]);
     // Counts that add up otherwise than binding would have it.
-    let mut state = begun(&book, 3, 0, 3);
+    let mut state = begun(&book, batch(3), 0, 3);
     (state.record.known_at_start, state.record.failed) = (0, 2);
     assert!(state.passed(&book).is_ok());
     // None where a plan exists, and bytes after the areas' sizes.
-    let mut state = begun(&book, 3, 0, 3);
+    let mut state = begun(&book, batch(3), 0, 3);
     (state.record.stage, state.record.length, state.record.litres) = (NONE, 0, 0);
     assert_both_refused(&state, &book, &[], Refusal::plain(11));
-    let mut state = begun(&book, 3, 0, 3);
+    let mut state = begun(&book, batch(3), 0, 3);
     state.runs_area[RUNS_AREA] = 9;
     assert!(state.passed(&book).is_ok());
     // Back to the start: 1 2 1 from 1 to 1.
-    let mut state = begun(&book, 3, 1, 1);
+    let mut state = begun(&book, batch(3), 1, 1);
     assert_eq!((state.record.length, state.record.litres), (1, 0));
     state.lineup_area[..3].copy_from_slice(&[1, 2, 1]);
     (state.record.length, state.record.litres) = (3, 150);
@@ -248,7 +255,7 @@ fn records_that_no_9_is_for() {
 #[test]
 fn a_standing_line_up_may_have_1600_grades() {
     let book = Draft::new(2).changeover(0, 1, 3).changeover(1, 0, 4).bytes();
-    let mut state = begun(&book, 0, 0, 1);
+    let mut state = begun(&book, batch(0), 0, 1);
     for place in 0..LINEUP_AREA {
         state.lineup_area[place] = (place % 2) as u8;
     }
@@ -260,7 +267,7 @@ fn a_standing_line_up_may_have_1600_grades() {
 #[test]
 fn named_runs_that_12_is_for() {
     let book = samples::book_a().bytes();
-    let state = begun(&book, 3, 0, 3);
+    let state = begun(&book, batch(3), 0, 3);
     // The standing line-up is 0 1 2 1 2 3.
     for named in [
         &[][..],
@@ -292,7 +299,7 @@ fn named_runs_that_12_is_for() {
 #[test]
 fn named_runs_that_come_back() {
     let book = samples::book_a().bytes();
-    let mut state = begun(&book, 3, 0, 3);
+    let mut state = begun(&book, batch(3), 0, 3);
     state.record = state.failed(&book, &[1, 2, 1]).unwrap();
     assert_eq!((state.record.litres, &state.lineup_area[..3]), (500, &[0, 1, 3][..]));
     assert_eq!(state.entry(2), [3, 1, 2, 1, 0, 0, 0, 0, 0]);
@@ -307,7 +314,7 @@ fn named_runs_that_come_back() {
 #[test]
 fn a_named_run_has_at_most_8_grades() {
     let book = generate::line(10, true, 1).bytes();
-    let mut state = begun(&book, 0, 0, 9);
+    let mut state = begun(&book, batch(0), 0, 9);
     let nine: Vec<u8> = (0..9).collect();
     assert_eq!(state.failed(&book, &nine), plain(12));
     assert_eq!(state.failed(&book, &nine[..8]).map(|record| record.stage), Ok(NONE));
@@ -323,7 +330,7 @@ fn book_with_256_runs() -> Vec<u8> {
 #[test]
 fn the_257th_known_run_is_13() {
     let book = book_with_256_runs();
-    let state = begun(&book, 0, 62, 63);
+    let state = begun(&book, batch(0), 62, 63);
     assert_eq!((state.record.known, state.record.litres), (256, 10));
     let mut after = state.clone();
     assert_eq!(after.failed(&book, &[62, 61]), plain(13));
@@ -346,7 +353,7 @@ fn the_256th_known_run_is_accepted() {
         draft = draft.run(&[i / 16, 16 + i % 16]);
     }
     let book = draft.bytes();
-    let mut state = begun(&book, 0, 62, 63);
+    let mut state = begun(&book, batch(0), 62, 63);
     state.record = state.failed(&book, &[62, 61]).unwrap();
     assert_eq!((state.record.known, state.record.failed, state.record.litres), (256, 1, 11));
     assert_eq!(state.entry(255), [2, 62, 61, 0, 0, 0, 0, 0, 0]);
@@ -355,7 +362,7 @@ fn the_256th_known_run_is_accepted() {
 }
 
 fn replayed(reports: &[&[u8]]) -> String {
-    let mut input = replay_input(3, 0, 3, &samples::book_a().bytes());
+    let mut input = replay_input(batch(3), 0, 3, &samples::book_a().bytes());
     input.extend(reports.concat());
     programs::replay(&input)
 }
@@ -393,13 +400,20 @@ fn replay_ends_its_list() {
 #[test]
 fn replay_refuses_begin() {
     let book = samples::book_a().bytes();
-    let whole = [replay_input(3, 0, 3, &book), vec![0]].concat();
+    let whole = [replay_input(batch(3), 0, 3, &book), vec![0]].concat();
     for length in 0..whole.len() - 1 {
         assert_eq!(programs::replay(&whole[..length]), "REFUSED 1 AT 0\n", "{length}");
     }
-    assert_eq!(programs::replay(&[replay_input(3, 4, 3, &book), vec![0]].concat()), "REFUSED 7\n");
-    assert_eq!(programs::replay(&replay_input(3, 9, 9, &book[..80])), "REFUSED 1 AT 75\n");
-    assert_eq!(programs::replay(&replay_input(3, 9, 9, &[])), "REFUSED 1 AT 0\n");
+    let replayed = |batch, end, book: &[u8]| {
+        programs::replay(&[replay_input(batch, 0, end, book), vec![0]].concat())
+    };
+    assert_eq!(replayed(batch(3), 4, &book), "REFUSED 7\n");
+    assert_eq!(replayed(batch(3), 9, &book[..80]), "REFUSED 1 AT 75\n");
+    assert_eq!(replayed(batch(3), 9, &[]), "REFUSED 1 AT 0\n");
+    let bad = samples::bad_batch();
+    assert_eq!(replayed(bad, 3, &book), "REFUSED 15\n");
+    assert_eq!(replayed(bad, 4, &book), "REFUSED 7\n");
+    assert_eq!(replayed(bad, 4, &samples::book_a_in([0, 1, 1, 1]).bytes()), "REFUSED 14 AT 70\n");
 }
 
 #[test]
@@ -423,10 +437,13 @@ fn true_labs_end_in_the_best_line_up_or_none() {
     let mut comes_back = 0;
     for seed in 0..2_000 {
         let random = &mut Random::new(&[3, seed]);
-        let (draft, start, end) = book_for_trials(random);
+        let (mut draft, start, end) = book_for_trials(random);
+        seasons::with_seasons(random, &mut draft);
+        let date = seasons::good_date(random, &draft.windows());
+        let batch = Batch { marks: 3, date };
         let book = generate::read(&draft);
         let bytes = draft.bytes();
-        let mut trials = Trials::begin(&bytes, 3, start, end).unwrap();
+        let mut trials = Trials::begin(&bytes, batch, start, end).unwrap();
         let count = random.below(20);
         let mut set = generate::random_runs(random, book.grades(), &book.changeovers.list(), count);
         set.extend(generate::part_of(random, trials.lineup()).filter(|_| random.chance(30)));
@@ -434,7 +451,7 @@ fn true_labs_end_in_the_best_line_up_or_none() {
         let record = trials.record;
         assert_eq!(record.trials(), reports);
 
-        let mut all = second::binding::known_runs(&book, 3);
+        let mut all = generate::runs_of(&book, batch);
         let unknown: HashSet<&Vec<u8>> = set.iter().filter(|run| !all.contains(run)).collect();
         assert!(record.failed <= unknown.len() as u64);
         all.extend(set.clone());

@@ -5,7 +5,7 @@ use Rattle.series.proofs.Replaying.{Replayed}
 use Rattle.series.proofs.replay.Given as goal
 
 abbrev pub invariant-loop-made : goal.invariant-loop-made
-invariant-loop-made l = Replayed l.bytes l.flags l.start l.end l.reports l.fn.paths l.fn.walk (answering l.rec l.paths l.walk) l.at
+invariant-loop-made l = Replayed l.bytes l.fn.batch l.start l.end l.reports l.fn.paths l.fn.walk (answering l.rec l.paths l.walk) l.at
 
 abbrev pub decreases-loop-made : goal.decreases-loop-made
 decreases-loop-made l = length l.reports - l.at

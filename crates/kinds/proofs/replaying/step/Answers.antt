@@ -4,7 +4,11 @@ use Rattle.kinds.proofs.Stepped.{stepped}
 use Rattle.kinds.proofs.replaying.step.Goals as goal
 
 pub returns-in-Ok : goal.returns-in-Ok
-returns-in-Ok g c = stepped _ _ _ _ _ _ _ c.in-Ok.first _ _ _ _ _ c.in-Ok.ensures c.make_all.ensures
+returns-in-Ok g c =
+    let case = c.args.case in
+    stepped case.bytes.now case.batch case.start case.end case.reports.now c.args.paths.now c.args.walk.now c.in-Ok.first _ _ _ _ _ c.in-Ok.ensures c.make_all.ensures
 
 pub returns-in-Err : goal.returns-in-Err
-returns-in-Err g c = not-begun _ _ _ _ _ _ _ c.in-Err.refusal _ _ c.in-Err.ensures
+returns-in-Err g c =
+    let case = c.args.case in
+    not-begun case.bytes.now case.batch case.start case.end case.reports.now c.args.paths.now c.args.walk.now c.in-Err.refusal _ _ c.in-Err.ensures

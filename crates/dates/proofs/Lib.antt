@@ -1,0 +1,4 @@
+-- The laws of years, dates and windows.
+pub mod CalendarLaws
+pub mod CalendarDays
+pub mod CalendarWindows
