@@ -2,7 +2,7 @@
 ghost use Rattle.std.specs.Prelude.{◌≡◌, true, ◌+◌, ◌≤◌, ◌<◌, length, ok_or, Some, MatchResult};
 ghost use Rattle.dates.specs.Dates.{window_fits};
 ghost use Rattle.limits.specs.Limits.{most_vertices, most_sets, longest_path};
-ghost use Rattle.book.specs.Book.{Book, are_vertices, proper_arc, is_path};
+ghost use Rattle.book.specs.Book.{Book, path_length, are_vertices, proper_arc, is_path};
 ghost use Rattle.book.specs.Reading.{u16_at, u32_at, day_at, window_at, needs_at, end_at, length_at, kind_of, framed, taken, arc_of};
 ghost use Rattle.book.specs.Reading.{field as Reading-field, fits as Reading-fits, follows as Reading-follows};
 ghost use Rattle.book.specs.Tables.{IsGraph, IsLoaded, AreTables, Enters, Leaves, LoadedAs, left};
@@ -49,7 +49,7 @@ impl Kind {
             Kind::VertexCount => n == 1,
             Kind::Arc => n == 6,
             Kind::RuleSet => n == 2 || n == 6,
-            Kind::Path => (2..=LONGEST_PATH).contains(&n),
+            Kind::Path => is_path_length(n),
         }
     }
 }
@@ -187,8 +187,15 @@ impl Needs {
     }
 }
 
+// Whether a path may have so many vertices.
+pub fn is_path_length(n: usize) -> bool
+    ensures { result ≡ path_length n }
+{
+    (2..=LONGEST_PATH).contains(&n)
+}
+
 // Whether all are vertices of a book with so many.
-fn are_vertices(path: &[u8], vertices: usize) -> bool
+pub fn are_vertices(path: &[u8], vertices: usize) -> bool
     ensures { result ≡ are_vertices vertices path.now }
 {
     path.iter().all(|v| usize::from(*v) < vertices)
@@ -199,7 +206,7 @@ fn are_vertices(path: &[u8], vertices: usize) -> bool
 pub fn is_path(path: &[u8], vertices: usize) -> bool
     ensures { result ≡ is_path vertices path.now }
 {
-    (2..=LONGEST_PATH).contains(&path.len()) && are_vertices(path, vertices)
+    is_path_length(path.len()) && are_vertices(path, vertices)
 }
 
 impl Loaded {

@@ -10,7 +10,7 @@ mod field;
 
 use dates::Window;
 use field::field_end;
-pub use field::{enter_arc, is_path};
+pub use field::{are_vertices, enter_arc, is_path, is_path_length};
 use limits::{AREA, MOST_PATHS, MOST_SETS, NO_ARC, PAIRS};
 use std::fmt;
 use walks::ArcTable;
@@ -33,6 +33,8 @@ pub enum Refusal {
     Full,
     Window(usize),
     Date,
+    PathLength,
+    NoVertex,
 }
 
 impl Refusal {
@@ -56,6 +58,8 @@ impl Refusal {
             Refusal::Full => 13,
             Refusal::Window(_) => 14,
             Refusal::Date => 15,
+            Refusal::PathLength => 16,
+            Refusal::NoVertex => 17,
         }
     }
 

@@ -3,18 +3,17 @@ use Rattle.std.specs.Prelude.{ℕ, ◌*◌, ◌≡◌, refl, true, ◌&&◌, Lis
 use Rattle.std.proofs.Common.{sym, ap, ap₂, subst, ◌∙◌, inl, inr, arith, eq-eqb, take-append-drop}
 use Rattle.std.proofs.Math.Option.{none, some, none-ne-some}
 use Rattle.std.proofs.lemmas.List.{length-map}
-use Rattle.limits.specs.Limits.{area_size, longest, most_paths}
+use Rattle.limits.specs.Limits.{area_size, longest, longest_path, most_paths}
 use Rattle.lists.specs.Test.{T→true, true→T}
 use Rattle.walks.specs.Graph.{Graph}
 use Rattle.walks.specs.Walk.{Walk, is_walk}
 use Rattle.walks.proofs.Walk.{is_walk→Walk, Walk→is_walk}
-use Rattle.walks.specs.Avoid.{occurs}
 use Rattle.walks.proofs.Avoid.{occurs→Occurs, Occurs→occurs}
 use Rattle.dates.proofs.CalendarLaws.{date-is}
 use Rattle.book.specs.declared.Refusal.{Refusal}
 use Rattle.book.specs.Refusal.{Test, order, in_order, refusal_by}
-use Rattle.book.specs.Book.{Book, graph, is_path}
-use Rattle.book.proofs.BookLaws.{is_path→IsPath, IsPath→is_path}
+use Rattle.book.specs.Book.{Book, graph}
+use Rattle.book.proofs.BookLaws.{vertices-below, below-vertices}
 use Rattle.book.specs.Reading.{Reading, accepted, refused, refusal_of}
 use Rattle.rules.specs.Area.{written, blocks, spelled, valid}
 use Rattle.rules.proofs.AreaLaws.{length-blocks}
@@ -26,13 +25,13 @@ use Rattle.walk_check.specs.Checking.{check_tests}
 use Rattle.planner.specs.Planning.{plan_tests}
 use Rattle.reach.specs.Reaching.{reach_tests}
 use Rattle.trial_record.specs.declared.Record.{Record}
-use Rattle.trial_rules.specs.Trials.{Report, passed, failed, State, standing, is_forbidden_set, is_record, is_valid, Valid as ValidState, is_named, has_room, begin_tests}
+use Rattle.trial_rules.specs.Trials.{Report, passed, failed, State, standing, is_forbidden_set, is_record, is_valid, Valid as ValidState, has_length, has_vertices, is_standing, has_room, said_tests, begin_tests}
 use Rattle.trial_rules.proofs.Tests.{once→Distinct, forbidden-set, →is_forbidden_set, is_valid→Valid}
 use Rattle.judging.specs.Judging.{state_of, report_tests}
 use Rattle.trials.specs.OperationLaws.{record_part}
 use Rattle.demands.specs.Conditions.{Condition, AllHold, FirstFails, Decides}
 use Rattle.demands.proofs.Conditions.{first-none, first_some, le_iff, lt_iff, eq_iff, and-iff}
-use Rattle.demands.specs.Asked.{bind_conditions, check_conditions, plan_conditions, reach_conditions, begin_conditions, Names, Room, report_conditions, Good, Cause, Judges, Conditions}
+use Rattle.demands.specs.Asked.{bind_conditions, check_conditions, plan_conditions, reach_conditions, begin_conditions, Sized, NamesGrades, Stands, Room, said_conditions, report_conditions, Good, Cause, Judges, Conditions}
 
 -- ---- tests that decide conditions
 module _ (tests : Book → List Test) (conditions : Book → List Condition) (decides : (b : Book) → Decides 0 (in_order order (tests b)) (conditions b)) where
@@ -85,11 +84,17 @@ record_iff b r paths walk v = (λ e. is_valid→Valid (graph b) σ (true→T _ (
     set : is_forbidden_set b.count σ.forbidden ≡ true
     set = T→true _ (→is_forbidden_set b.count σ.forbidden (forbidden-set b.count σ.forbidden (omega (arith, size, v.few)) (once→Distinct _ (true→T _ v.different)) v.paths))
 
-names_iff : (g : Graph) (σ : State) (ρ : Report) → (is_named g σ ρ ≡ true) ↔ Names g σ ρ
-names_iff g σ passed = (λ _. tt, λ _. refl)
-names_iff g σ (failed p) =
-    and-iff (is_path g.count p) (occurs p (standing σ)) (is_path→IsPath g.count p, IsPath→is_path g.count p)
-    (λ e. occurs→Occurs p (standing σ) (true→T _ e), λ o. T→true _ (Occurs→occurs p (standing σ) o))
+sized-iff : (ρ : Report) → (has_length ρ ≡ true) ↔ Sized ρ
+sized-iff passed = (λ _. tt, λ _. refl)
+sized-iff (failed p) = and-iff (leb 2 (length p)) (leb (length p) longest_path) (le_iff 2 (length p)) (le_iff (length p) longest_path)
+
+grades-iff : (g : Graph) (ρ : Report) → (has_vertices g ρ ≡ true) ↔ NamesGrades g ρ
+grades-iff g passed = (λ _. tt, λ _. refl)
+grades-iff g (failed p) = (vertices-below g.count p, below-vertices g.count p)
+
+stands-iff : (σ : State) (ρ : Report) → (is_standing σ ρ ≡ true) ↔ Stands σ ρ
+stands-iff σ passed = (λ _. tt, λ _. refl)
+stands-iff σ (failed p) = (λ e. occurs→Occurs p (standing σ) (true→T _ e), λ o. T→true _ (Occurs→occurs p (standing σ) o))
 
 room-iff : (σ : State) (ρ : Report) → (has_room σ ρ ≡ true) ↔ Room σ ρ
 room-iff σ passed = (λ _. tt, λ _. refl)
@@ -139,25 +144,23 @@ begin-decides batch start end paths walk b = (
   ),
 )
 
+pub said-decides : (g : Graph) (σ : State) (ρ : Report) → Decides 0 (said_tests g σ ρ) (said_conditions g σ ρ)
+said-decides g σ ρ = (sized-iff ρ, (refl, refl), λ _. (grades-iff g ρ, (refl, refl), λ _. (stands-iff σ ρ, (refl, refl), λ _. (room-iff σ ρ, (refl, refl), λ _. tt))))
+
 report-decides : (r : Record) (paths walk : List ℕ) (ρ : Report) (b : Book) → Decides 0 (report_tests r paths walk ρ b) (report_conditions r paths walk ρ b)
-report-decides r paths walk ρ b =
-    let σ = state_of r paths walk in (
-      le_iff area_size (length paths),
+report-decides r paths walk ρ b = (
+  le_iff area_size (length paths),
+  (refl, refl),
+  λ _. (
+    le_iff longest (length walk),
+    (refl, refl),
+    λ _. (
+      valid-iff b.count paths r.known,
       (refl, refl),
-      λ _. (
-        le_iff longest (length walk),
-        (refl, refl),
-        λ _. (
-          valid-iff b.count paths r.known,
-          (refl, refl),
-          λ v. (
-            record_iff b r paths walk v,
-            (refl, refl),
-            λ _. (eq_iff r.stage 0, (refl, refl), λ _. (names_iff (graph b) σ ρ, (refl, refl), λ _. (room-iff σ ρ, (refl, refl), λ _. tt))),
-          ),
-        ),
-      ),
-    )
+      λ v. (record_iff b r paths walk v, (refl, refl), λ _. (eq_iff r.stage 0, (refl, refl), λ _. said-decides (graph b) (state_of r paths walk) ρ)),
+    ),
+  ),
+)
 
 pub conditions : (r : Reading) → Conditions r
 conditions r =

@@ -1,5 +1,5 @@
 -- What the words of demand 3 come to in the theory of trials: the answers, the accepted reports, a true lab, its set, and the walks that are free.
-use Rattle.std.specs.Prelude.{ℕ, ◌≡◌, Bool, true, false, eqb, length, Result, Ok, Err}
+use Rattle.std.specs.Prelude.{ℕ, ◌≡◌, true, length, Result, Ok, Err}
 use Rattle.std.proofs.Math.Path.{refl, ap, ap₂}
 use Rattle.std.proofs.Common.{sym, subst, ◌∙◌, inl, inr, ⊎_elim, arith}
 use mathlib.Core.List.Memᴰ
@@ -10,25 +10,25 @@ use Rattle.walks.proofs.Avoid.{Avoids-mono}
 use Rattle.walks.specs.Best.{Feasible}
 use Rattle.states.specs.Chosen.{chosen}
 use Rattle.book.specs.declared.Refusal.{Refusal}
-use Rattle.book.specs.declared.Refusal.TheVariants.{Ended, NotStanding, Full}
-use Rattle.book.specs.Refusal.{number_of, test, refusal_by}
+use Rattle.book.specs.Refusal.{number_of, refusal_by}
 use Rattle.book.specs.Book.{Book, WellFormed, graph}
-use Rattle.book.specs.Reading.{accepted, reading, refusal_of, book_in}
+use Rattle.book.specs.Reading.{accepted, reading}
 use Rattle.rules.specs.Binding.{known}
 use Rattle.rules.specs.declared.Batch.{Batch}
 use Rattle.trial_record.specs.declared.Record.{Record}
-use Rattle.trial_rules.specs.Trials.{Report, passed, failed, State, path_area, is_named, has_room, oracle_tests, refusal, Valid, begin_refusal, unless, step, after, accepted as acceptedFrom, EachAccepted, Begin}
+use Rattle.trial_rules.specs.Trials.{Report, passed, failed, State, path_area, oracle_tests, refusal, Valid, begin_refusal, unless, step, after, accepted as acceptedFrom, EachAccepted, Begin}
 use Rattle.trial_rules.specs.Lacking.{lacking, together}
 use Rattle.trial_rules.proofs.Lacking.{together-is, lacking-into, lacking-from, lacking-distinct}
 use Rattle.trial_rules.proofs.Invariant.{Invariant}
 use Rattle.trial_rules.specs.Oracle.{TrueTo}
-use Rattle.judging.specs.Judging.{state_of, report_tests}
 use Rattle.trials.specs.declared.Rejected.{Rejected}
 use Rattle.trials.specs.Operations.{Leaves, rejected, answering, begun_as, beginning, beginning_of, reported_as, reporting_of, reporting, first_state}
-use Rattle.trials.specs.OperationLaws.{same_step, rejected-for}
+use Rattle.trials.specs.OperationLaws.{same_step}
 use Rattle.trials.specs.Replanning.{known-set}
 use Rattle.series.specs.Whole.{leaves_of, report_leaves, after-keeps, opened}
 use Rattle.demands.proofs.Marks.{known→sheet, sheet→known}
+use Rattle.demands.proofs.Conditions.{number-among}
+use Rattle.demands.proofs.RefusalLaws.{report-tells, refusals}
 use Rattle.demands.specs.Calls.{answer_on, answers_on, accepted_by, accepted_on, TrueReport, TrueLab, HowMany, OfEither, LabsOnly, Free}
 
 -- ---- how many
@@ -102,24 +102,7 @@ true-report R σ (failed r) h = h
 -- A refused report hands the record back as it came and writes nothing, whatever the record and the areas are.
 pub refused-kept : (s : List ℕ) (l : Leaves Record) (ρ : Report) (x : Refusal) (r : Record) → answer_on s l ρ ≡ Err (rejected x r)
     → reporting s l.answer l.paths l.walk ρ ≡ answering (Err (rejected x l.answer)) l.paths l.walk
-refused-kept s l ρ x r e = go (refusal_of (reading s) (report_tests l.answer l.paths l.walk ρ)) e
-  where
-    σ : State
-    σ = step (graph (book_in (reading s))) (chosen (graph (book_in (reading s)))) (state_of l.answer l.paths l.walk) ρ
-
-    go : (o : Option Refusal) → (reported_as o σ l.answer l.paths l.walk).answer ≡ Err (rejected x r)
-        → reported_as o σ l.answer l.paths l.walk ≡ answering (Err (rejected x l.answer)) l.paths l.walk
-    go none f = absurd (let z : ◌≡◌ {A = ℕ} 0 1 = cc in omega arith)
-    go (some y) f = ap (λ z. answering (Err (rejected z l.answer)) l.paths l.walk) (rejected-for y x l.answer r f)
-
--- A report that is refused by the oracle's tests is refused under one of their numbers.
-refused-by-oracle : (open-stage is-named room : Bool) (σ : State) (q : Record) (paths walk : List ℕ) (x : Refusal) (r : Record)
-    → (reported_as (refusal_by (test 11 open-stage ∷ test 12 is-named ∷ test 13 room ∷ [])) σ q paths walk).answer ≡ Err (rejected x r)
-    → Memᴰ (number_of x) (11 ∷ 12 ∷ 13 ∷ [])
-refused-by-oracle false n m σ q paths walk x r e = Memᴰ.head (sym (ap number_of (rejected-for Ended x q r e)))
-refused-by-oracle true false m σ q paths walk x r e = Memᴰ.tail (Memᴰ.head (sym (ap number_of (rejected-for NotStanding x q r e))))
-refused-by-oracle true true false σ q paths walk x r e = Memᴰ.tail (Memᴰ.tail (Memᴰ.head (sym (ap number_of (rejected-for Full x q r e)))))
-refused-by-oracle true true true σ q paths walk x r e = absurd (let z : ◌≡◌ {A = ℕ} 0 1 = cc in omega arith)
+refused-kept s l ρ x r e = (refusals s x).report-keeps l.answer l.paths l.walk ρ (r, e)
 
 module _ (s : List ℕ) (b : Book) (read : reading s ≡ accepted b) where
   abbrev next : State → Report → State
@@ -137,11 +120,12 @@ module _ (s : List ℕ) (b : Book) (read : reading s ≡ accepted b) where
       → answer_on s (leaves_of σ) ρ ≡ (replied o σ ρ).answer
   answer-is σ v ρ o e = ap (λ (m : Leaves (Result Record Rejected)). m.answer) (report-is σ v ρ o e)
 
-  pub only_three : (σ : State) → Valid (graph b) σ → (ρ : Report) → refusal (graph b) σ ρ ≡ refusal_by (oracle_tests (graph b) σ ρ)
-      → (x : Refusal) (r : Record) → answer_on s (leaves_of σ) ρ ≡ Err (rejected x r) → Memᴰ (number_of x) (11 ∷ 12 ∷ 13 ∷ [])
-  only_three σ v ρ only x r e =
-      refused-by-oracle (eqb σ.rec.stage 0) (is_named (graph b) σ ρ) (has_room σ ρ) (next σ ρ) σ.rec (path_area σ) σ.area x r
-      (sym (answer-is σ v ρ _ only) ∙ e)
+  pub only_five : (σ : State) → Valid (graph b) σ → (ρ : Report) → refusal (graph b) σ ρ ≡ refusal_by (oracle_tests (graph b) σ ρ)
+      → (x : Refusal) (r : Record) → answer_on s (leaves_of σ) ρ ≡ Err (rejected x r) → Memᴰ (number_of x) (11 ∷ 16 ∷ 17 ∷ 12 ∷ 13 ∷ [])
+  only_five σ v ρ only x r e =
+      let tests = oracle_tests (graph b) σ ρ in
+      let told = report-tells (refusal_by tests) (next σ ρ) σ.rec (path_area σ) σ.area x in
+      number-among tests x (told.defined.0 (r, sym (answer-is σ v ρ _ only) ∙ e))
 
   -- An accepted begin on the book: the trials that it opens.
   module _ (batch : Batch) (start end : ℕ) (paths walk : List ℕ) where

@@ -1,10 +1,12 @@
 -- The laws of what specs/Conditions.antt defines.
-use Rattle.std.specs.Prelude.{ℕ, ◌≤◌, ◌<◌, ◌≡◌, refl, Bool, true, false, cond, ◌&&◌, List, [], ◌∷◌, ◌↔◌, eqb, leb, ltb}
+use Rattle.std.specs.Prelude.{ℕ, ◌≤◌, ◌<◌, ◌≡◌, refl, Bool, true, false, cond, ◌&&◌, List, [], ◌∷◌, ◌↔◌, ◌⊎◌, map, eqb, leb, ltb}
 use Rattle.std.proofs.Common.{sym, ap, ap₂, subst, ◌∙◌, true≢false, inl, inr, arith, leb-true, le-leb, ltb-true, lt-ltb, eqb-true, eq-eqb}
-use Rattle.std.proofs.Math.Option.{none, some, none-ne-some}
+use Rattle.std.proofs.Math.Option.{Option, none, some, none-ne-some}
+use mathlib.Core.List.{Memᴰ}
+use mathlib.Core.List.Memᴰ
 use Rattle.lists.specs.Test.{and-true}
 use Rattle.book.specs.declared.Refusal.{Refusal}
-use Rattle.book.specs.Refusal.{Test, numbered, first_failure}
+use Rattle.book.specs.Refusal.{Test, number_of, numbered, first_failure}
 use Rattle.rules.proofs.Numbers.{refusal-again}
 use Rattle.demands.specs.Conditions.{Condition, AllHold, HasNumber, FirstFails, Decides}
 
@@ -41,6 +43,24 @@ first_some at (t ∷ ts) (c ∷ cs) x (same, is, rest) = go t.holds refl (first_
         back : FirstFails at (c ∷ cs) x → some t.refusal ≡ some x
         back (inl (_, has)) = ap some (one-refusal is has)
         back (inr (yes-c, _)) = absurd (true≢false (sym (same.1 yes-c) ∙ e))
+
+-- All hold, or there is a first that does not.
+pub decided : (at : ℕ) (ts : List Test) (cs : List Condition) → Decides at ts cs → AllHold cs ⊎ ((x : Refusal) × FirstFails at cs x)
+decided at ts cs d = go (first_failure ts) refl
+  where
+    go : (o : Option Refusal) → first_failure ts ≡ o → AllHold cs ⊎ ((x : Refusal) × FirstFails at cs x)
+    go none e = inl ((first-none at ts cs d).0 e)
+    go (some x) e = inr (x, (first_some at ts cs x d).0 e)
+
+-- The first test that fails has one of the tests' numbers.
+pub number-among : (ts : List Test) (x : Refusal) → first_failure ts ≡ some x → Memᴰ (number_of x) (map (λ t. number_of t.refusal) ts)
+number-among [] x e = absurd (none-ne-some x e)
+number-among (t ∷ ts) x e = go t.holds (number-among ts x) e
+  where
+    go : (h : Bool) → (first_failure ts ≡ some x → Memᴰ (number_of x) (map (λ u. number_of u.refusal) ts)) → cond h (first_failure ts) (some t.refusal) ≡ some x
+        → Memᴰ (number_of x) (map (λ u. number_of u.refusal) (t ∷ ts))
+    go true later q = Memᴰ.tail (later q)
+    go false later q = let here : x ≡ t.refusal = cc q in Memᴰ.head (ap number_of here)
 
 -- ---- tests on numbers
 pub zero_one : {A : Type 0} → ◌≡◌ {A = ℕ} 0 1 → A

@@ -22,7 +22,7 @@ use Rattle.series.specs.Reports.{reports_of}
 use Rattle.series.specs.Making.{replaying}
 use Rattle.series.specs.Whole.{leaves_of, reports_on, opened, begin_leaves, reports_leave, replay_leaves}
 use Rattle.demands.specs.Calls.{AcceptedBegin, opening, accepted_on, standing_in, TrueLab, LabSet}
-use Rattle.demands.proofs.CallLaws.{how_many_once, many_of_either, many_labs_only, free→feasible, feasible→free, refused-kept, true-report, answer-is, only_three, begin_ok, accepted_are, true_lab}
+use Rattle.demands.proofs.CallLaws.{how_many_once, many_of_either, many_labs_only, free→feasible, feasible→free, refused-kept, true-report, answer-is, only_five, begin_ok, accepted_are, true_lab}
 use Rattle.demands.specs.Demands.{AsRuled, LabOutcome, ReplayOutcome}
 
 module _ (β : AcceptedBegin) where
@@ -83,7 +83,7 @@ module _ (β : AcceptedBegin) where
         nothing = subst (λ F. (σ.rec.stage ≡ 2) ↔ None (graph b) F start end) c.forbidden c.nothing;
         nothing-stands = v.no_walk;
         passed-stage = c.passed-stage;
-        refusals = λ ρ. only_three s b read σ v ρ (c.refusals ρ);
+        refusals = λ ρ. only_five s b read σ v ρ (c.refusals ρ);
       }
 
   pub ruled : (ρs : List Report) → AsRuled β ρs (accepted_on s (opening β) ρs) (reports_on s (opening β) ρs)

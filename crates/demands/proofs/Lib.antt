@@ -10,6 +10,7 @@ pub mod SeasonLaws
 pub mod SheetOrder
 pub mod StutterLaws
 pub mod Theorems
+pub mod ToldLaws
 pub mod Witnesses
 pub mod Conditions
 pub mod Fields

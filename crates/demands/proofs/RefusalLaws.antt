@@ -34,9 +34,9 @@ use Rattle.demands.specs.Demands.{ClearOrOccurs, tests_of_begin, Exactly, Refusa
 
 -- ---- the proofs
 -- An answer that tells whether the definition gives x, and what it keeps then.
-record Tells (o : Option Refusal) (x : Refusal) (answer kept : Type 0) : Type 0 where
-  defined : answer ↔ (o ≡ some x)
-  keeps : answer → kept
+pub record Tells (o : Option Refusal) (x : Refusal) (answer kept : Type 0) : Type 0 where
+  pub defined : answer ↔ (o ≡ some x)
+  pub keeps : answer → kept
 
 exactly : {r : Reading} {tests : Book → List Test} {conditions : Book → List Condition} {x : Refusal} {answer : Type 0}
     → Judges r tests conditions → answer ↔ (refusal_of r tests ≡ some x) → Exactly r tests conditions x answer
@@ -89,7 +89,7 @@ begin-tells (some y) σ paths walk x =
       keeps = λ e. let same : y ≡ x = cc in ap (λ z. answering (Err z) paths walk) same;
     }
 
-report-tells : (o : Option Refusal) (σ : State) (q : Record) (paths walk : List ℕ) (x : Refusal)
+pub report-tells : (o : Option Refusal) (σ : State) (q : Record) (paths walk : List ℕ) (x : Refusal)
     → Tells o x ((q' : Record) × ((reported_as o σ q paths walk).answer ≡ Err (rejected x q'))) (reported_as o σ q paths walk ≡ answering (Err (rejected x q)) paths walk)
 report-tells none σ q paths walk x =
     record { defined = (λ h. let e = h.1 in zero_one (cc e), λ e. absurd (none-ne-some _ e)); keeps = λ h. let e = h.1 in zero_one (cc e) }

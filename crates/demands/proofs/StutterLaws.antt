@@ -1,6 +1,6 @@
 -- Runs that come back to a grade, proved. One that names a grade twice in succession occurs in no line-up, since no changeover leads from a grade to itself.
 use Rattle.trials.specs.Operations.{rejected}
-use Rattle.std.specs.Prelude.{ℕ, suc, ◌≤◌, ◌<◌, ◌≡◌, refl, ◌&&◌, List, [], ◌∷◌, ◌++◌, ◌↔◌, ◌≢◌, T, eqb, length, get_or, take, Ok, Err}
+use Rattle.std.specs.Prelude.{ℕ, suc, ◌≤◌, ◌<◌, ◌≡◌, ◌&&◌, List, [], ◌∷◌, ◌++◌, ◌↔◌, T, eqb, length, get_or, take, Ok, Err}
 use Rattle.std.proofs.Common.{sym, ap, subst, ◌∙◌, inl, inr, ⊎_elim, arith, eqb→eq}
 use Rattle.std.proofs.Math.Facts.{or_yes}
 use Rattle.limits.specs.Limits.{area_size, longest_path, most_sets, most_paths}
@@ -13,13 +13,11 @@ use Rattle.walks.specs.Best.{Best, None}
 use Rattle.walks.proofs.Best.{Best-same, None-same}
 use Rattle.walks.specs.Stutter.{Stutters, Loopless, ButStutters}
 use Rattle.walks.proofs.Stutter.{stutter_never_occurs, but_stutters}
-use Rattle.states.specs.Chosen.{chosen}
 use Rattle.book.specs.declared.Refusal.{Refusal}
-use Rattle.book.specs.declared.Refusal.TheVariants.{NotStanding}
 use Rattle.book.specs.Refusal.{number_of}
 use Rattle.book.specs.Book.{Book, RuleSet, All, IsArc, IsPath, all_paths, given, graph}
 use Rattle.book.proofs.BookLaws.{reading-is-book, given_cons, all_map, all_left, all_right}
-use Rattle.book.specs.Reading.{accepted, reading, book_in}
+use Rattle.book.specs.Reading.{accepted, reading}
 use Rattle.book_bytes.specs.Bytes.{ProperNeeds, Keeps, bytes_of}
 use Rattle.book_bytes.proofs.RoundTrip.{every_book_read}
 use Rattle.rules.specs.Binding.{known}
@@ -31,17 +29,15 @@ use Rattle.rules.proofs.Laws.{bind-accepted}
 use Rattle.rules.specs.declared.Batch.{Batch}
 use Rattle.planner.specs.RuleSets.{SameWalks}
 use Rattle.trial_record.specs.declared.Record.{Record}
-use Rattle.trial_rules.specs.Trials.{State, failed, step}
+use Rattle.trial_rules.specs.Trials.{failed}
 use Rattle.trial_rules.proofs.Tests.{forbidden-set, set-once}
-use Rattle.judging.specs.Judging.{state_of}
-use Rattle.trials.specs.Operations.{answering, reported_as, reporting}
+use Rattle.trials.specs.Operations.{answering, reporting}
 use Rattle.trials.specs.Replanning.{known-set}
 use Rattle.demands.specs.Marks.{OfSheet}
 use Rattle.demands.proofs.Marks.{known→sheet, sheet→known}
-use Rattle.demands.proofs.Asked.{conditions}
 use Rattle.demands.specs.Calls.{HowMany}
 use Rattle.demands.specs.Demands.{IsRun, Tried, ButStutteringRuns, SamePlans}
-use Rattle.demands.proofs.RefusalLaws.{refusals}
+use Rattle.demands.proofs.ToldLaws.{tried, told}
 use Rattle.demands.proofs.AnswerLaws.{dated, binds}
 use Rattle.demands.proofs.PlanLaws.{count-is}
 use Rattle.demands.proofs.SamePlans.{same-plans}
@@ -81,21 +77,10 @@ occurs-below {g} {r} {w} walk o =
     all_left (λ v. v < g.count) r o.after
     (all_right (λ v. v < g.count) o.before (r ++ o.after) (subst (All (λ v. v < g.count)) o.split (all-below g.count w walk.below)))
 
--- what is tried is a walk
-tried_walk : {b : Book} {q : Record} {paths walk : List ℕ} → Tried b q paths walk → Walk (graph b) (take q.length walk)
-tried_walk {b} {q} t = let stands : q.stage ≢ 2 = λ e. omega (arith, t.stage) in (t.state.walk stands).walk
-
 pub from_lab : (s : List ℕ) (b : Book) → reading s ≡ accepted b → (q : Record) (paths walk : List ℕ) → Tried b q paths walk → q.known < most_paths
     → (r : List ℕ) → 2 ≤ length r → length r ≤ longest_path → Occurs r (take q.length walk)
     → (q' : Record) × ((reporting s q paths walk (failed r)).answer ≡ Ok q')
-from_lab s b read q paths walk t room r two eight o =
-    let g = graph (book_in (reading s)) in
-    let after : State = step g (chosen g) (state_of q paths walk) (failed r) in
-    let is-path : IsPath b.count r = record { two = two; eight = eight; below = occurs-below (tried_walk t) o } in
-    let none-refused =
-    ((conditions (reading s)).report q paths walk (failed r)).accepts.1
-    (b, read, (t.paths-fit, (t.walk-fits, (t.runs, (t.state, (t.stage, ((is-path, o), (room, tt)))))))) in
-    (after.rec, ap (λ x. (reported_as x after q paths walk).answer) none-refused)
+from_lab s b read q paths walk t room r two eight o = (told s b read q paths walk t r).taken.1 ((two, eight, occurs-below (tried t).walk o), o, room)
 
 pub bound : (s : List ℕ) (b : Book) → reading s ≡ accepted b → (batch : Batch) (area : List ℕ) → area_size ≤ length area → (n : ℕ) → bound_as (binding s batch area) ≡ Ok n
     → (runs : HowMany (OfSheet b batch) n) × (runs.listed ≡ spelled n (area_after (binding s batch area) area))
@@ -137,14 +122,9 @@ module _ (s : List ℕ) (b : Book) (read : reading s ≡ accepted b) where
     pub none : None (graph b) F start end ↔ None (graph b) G start end
     none = (None-same (but_stutters loopless from), None-same (but_stutters loopless to))
 
-  pub never-named : (q : Record) (paths walk : List ℕ) → Tried b q paths walk → (r : List ℕ) → Stutters r
+  pub never-named : (q : Record) (paths walk : List ℕ) → Tried b q paths walk → (r : List ℕ) → IsRun b.count r → Stutters r
       → (x : Refusal) × (number_of x ≡ 12) × (reporting s q paths walk (failed r) ≡ answering (Err (rejected x q)) paths walk)
-  never-named q paths walk t r d =
-      let refusal = refusals s NotStanding in
-      let refused =
-      (refusal.report q paths walk (failed r)).cause.1
-      (inr (b, read, inr (t.paths-fit, inr (t.walk-fits, inr (t.runs, inr (t.state, inr (t.stage, inl (λ names. never-occurs r d _ (tried_walk t) names.1, (refl, refl))))))))) in
-      (NotStanding, refl, refusal.report-keeps q paths walk (failed r) refused)
+  never-named q paths walk t r run d = (told s b read q paths walk t r).elsewhere.1 (run, never-occurs r d _ (tried t).walk)
 
 pub plans : (s t : List ℕ) (b c : Book) → reading s ≡ accepted b → reading t ≡ accepted c → ButStutteringRuns b c → SamePlans s t
 plans s t b c read read' o = same-plans s t b c read read' walks

@@ -1,4 +1,4 @@
--- The three demands hold, and what 02, orders 1 to 4, adds to them.
+-- The three demands hold, and what 02, orders 1 to 5, adds to them.
 use Rattle.dates.proofs.CalendarDays.{month-days}
 use Rattle.dates.proofs.CalendarLaws.{date-is, one_day}
 use Rattle.dates.proofs.CalendarWindows.{whole_year, one_of_two}
@@ -9,7 +9,7 @@ use Rattle.book_bytes.proofs.BytesLaws.{bytes_below}
 use Rattle.book_bytes.proofs.Longest.{full_book, full_keeps, full_length}
 use Rattle.book_bytes.proofs.LongBook.{longest-book}
 use Rattle.book_bytes.proofs.RoundTrip.{every_book_read, round_trip, refused_otherwise, same-book}
-use Rattle.demands.specs.Demands.{Demand1, Demand2, Order1, Order2, Order3, Order4, Demand3}
+use Rattle.demands.specs.Demands.{Demand1, Demand2, Order1, Order2, Order3, Order4, Order5, Demand3}
 use Rattle.demands.proofs.AnswerLaws.{answers}
 use Rattle.demands.proofs.RefusalLaws.{refusals}
 use Rattle.demands.proofs.PlanLaws.{batch-plans}
@@ -18,6 +18,7 @@ use Rattle.demands.proofs.SheetOrder.{same-answers}
 use Rattle.demands.proofs.StutterLaws as stutters
 use Rattle.demands.proofs.PassLaws.{counted-first, settled-plans, settled-ends, few-by-plans, few-by-tables, never-over}
 use Rattle.demands.proofs.SeasonLaws as seasons
+use Rattle.demands.proofs.ToldLaws.{told, known, over}
 use Rattle.demands.proofs.LabLaws.{ruled, labs, replay-labs}
 
 pub demand_1 : Demand1
@@ -95,6 +96,9 @@ order-4 =
       by_hand = seasons.by_hand;
       no_windows = seasons.no_windows;
     }
+
+pub order-5 : Order5
+order-5 = record { told = told; known = known; over = over }
 
 pub demand_3 : Demand3
 demand_3 = record { after_calls = labs; after-replay = replay-labs; after_any = ruled }

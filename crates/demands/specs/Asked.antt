@@ -2,14 +2,14 @@
 -- not so. And that the tests which its contract names decide just this.
 use Rattle.std.specs.Prelude.{ℕ, ◌*◌, ◌≤◌, ◌<◌, ◌≡◌, List, [], ◌∷◌, ◌↔◌, ◌⊎◌, length}
 use Rattle.std.proofs.Math.Option.{none, some}
-use Rattle.limits.specs.Limits.{area_size, longest, most_paths}
+use Rattle.limits.specs.Limits.{area_size, longest, longest_path, most_paths}
 use Rattle.walks.specs.Graph.{Graph}
 use Rattle.walks.specs.Walk.{Walk}
 use Rattle.walks.specs.Avoid.{Occurs}
 use Rattle.dates.specs.Calendar.{IsDate}
 use Rattle.book.specs.declared.Refusal.{Refusal}
 use Rattle.book.specs.Refusal.{Test}
-use Rattle.book.specs.Book.{Book, graph, IsPath}
+use Rattle.book.specs.Book.{Book, graph, All}
 use Rattle.book.specs.Reading.{Reading, accepted, refused, refusal_of}
 use Rattle.rules.specs.ValidLaws.{Valid}
 use Rattle.rules.specs.declared.Batch.{Batch}
@@ -53,14 +53,26 @@ abbrev pub begin_conditions : Batch → ℕ → ℕ → List ℕ → List ℕ �
 begin_conditions batch start end paths walk b =
     asks 8 (area_size ≤ length paths) ∷ asks 8 (longest ≤ length walk) ∷ asks 7 (start < b.count) ∷ asks 7 (end < b.count) ∷ asks 15 (IsDate batch.date) ∷ []
 
--- 12: a named run is one that the book's rules take, and stands in the standing line-up. 13: there is room for one more known run.
-abbrev pub Names : Graph → State → Report → Type 0
-Names g σ passed = Unit {0}
-Names g σ (failed p) = IsPath g.count p × Occurs p (standing σ)
+-- Of a named run. 16: it has 2 to 8 grades. 17: each is below the count. 12: it stands in the standing line-up. 13: there is room for one more known run.
+abbrev pub Sized : Report → Type 0
+Sized passed = Unit {0}
+Sized (failed p) = (2 ≤ length p) × (length p ≤ longest_path)
+
+abbrev pub NamesGrades : Graph → Report → Type 0
+NamesGrades g passed = Unit {0}
+NamesGrades g (failed p) = All (λ v. v < g.count) p
+
+abbrev pub Stands : State → Report → Type 0
+Stands σ passed = Unit {0}
+Stands σ (failed p) = Occurs p (standing σ)
 
 abbrev pub Room : State → Report → Type 0
 Room σ passed = Unit {0}
 Room σ (failed p) = σ.rec.known < most_paths
+
+-- What is asked of what a report says.
+abbrev pub said_conditions : Graph → State → Report → List Condition
+said_conditions g σ ρ = asks 16 (Sized ρ) ∷ asks 17 (NamesGrades g ρ) ∷ asks 12 (Stands σ ρ) ∷ asks 13 (Room σ ρ) ∷ []
 
 -- 9, of a record: `ValidState` has its parts. 11: a line-up stands.
 abbrev pub report_conditions : Record → List ℕ → List ℕ → Report → Book → List Condition
@@ -70,9 +82,7 @@ report_conditions r paths walk ρ b =
     ∷ asks 9 (Valid b.count paths r.known)
     ∷ asks 9 (ValidState (graph b) (state_of r paths walk))
     ∷ asks 11 (r.stage ≡ 0)
-    ∷ asks 12 (Names (graph b) (state_of r paths walk) ρ)
-    ∷ asks 13 (Room (state_of r paths walk) ρ)
-    ∷ []
+    ∷ said_conditions (graph b) (state_of r paths walk) ρ
 
 -- ---- the statement
 -- There is a book, and all is as asked; or not: the reading is refused under x, or x is for the first condition that does not hold.

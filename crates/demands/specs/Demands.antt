@@ -1,5 +1,5 @@
 -- The three demands (docs/RULES.md), sentence by sentence: each is a record with a part for each sentence, over the definitions that the contracts of the
--- operations name; and after the second demand what requests 1 to 4 add (02). A sentence that a comment has in quotation marks is the demand's, 02's in the part of a
+-- operations name; and after the second demand what requests 1 to 5 add (02). A sentence that a comment has in quotation marks is the demand's, 02's in the part of a
 -- request, or 01's where it says so. Theorems.antt proves them.
 use Rattle.std.specs.Prelude
 use Rattle.std.specs.Prelude.{ℕ, Bool, suc, ◌≤◌, ◌<◌, ◌+◌, ◌*◌, ◌≡◌, ◌⊎◌, ◌↔◌, ◌≢◌, true, false, length, drop, get_or, take, Option, Some, Result, Ok, Err}
@@ -313,13 +313,16 @@ pub record Order1 : Type 0 where
 abbrev pub IsRun : ℕ → List ℕ → Type 0
 IsRun count r = (2 ≤ length r) × (length r ≤ longest_path) × All (λ v. v < count) r
 
--- A failed report on this record and these areas is refused for nothing before 12 (`report_conditions`).
-pub record Tried (b : Book) (q : Record) (paths walk : List ℕ) : Type 0 where
+-- A report on this record and these areas is refused for nothing before 11 (`report_conditions`) ...
+pub record InOrder (b : Book) (q : Record) (paths walk : List ℕ) : Type 0 where
   pub paths-fit : area_size ≤ length paths
   pub walk-fits : longest ≤ length walk
   pub runs : Valid b.count paths q.known
   pub state : ValidState (graph b) (state_of q paths walk)
-  pub stage : q.stage ≡ 0
+
+-- ... and a failed one for nothing that comes before the run that it names.
+abbrev pub Tried : Book → Record → List ℕ → List ℕ → Type 0
+Tried b q paths walk = InOrder b q paths walk × (q.stage ≡ 0)
 
 -- The same grades and changeovers; and each run of the one's binding sheets is one of the other's, or names a grade twice in succession.
 pub record ButStutteringRuns (b c : Book) : Type 0 where
@@ -349,8 +352,8 @@ pub record Order2 : Type 0 where
       → None (graph b) F start end ↔ None (graph b) G start end
   -- ... and so are plans and tables of ends, for every batch.
   pub plans : (s t : List ℕ) (b c : Book) → reading s ≡ accepted b → reading t ≡ accepted c → ButStutteringRuns b c → SamePlans s t
-  -- From the lab it is refused under 12.
-  pub never-named : (s : List ℕ) (b : Book) → reading s ≡ accepted b → (q : Record) (paths walk : List ℕ) → Tried b q paths walk → (r : List ℕ) → Stutters r
+  -- From the lab it is refused under 12, like any other run by the rules that does not stand.
+  pub never-named : (s : List ℕ) (b : Book) → reading s ≡ accepted b → (q : Record) (paths walk : List ℕ) → Tried b q paths walk → (r : List ℕ) → IsRun b.count r → Stutters r
       → (x : Refusal) × (number_of x ≡ 12) × (reporting s q paths walk (failed r) ≡ answering (Err (rejected x q)) paths walk)
 
 -- ==== Passes that end with the first that changes none (02, order 3)
@@ -490,6 +493,37 @@ pub record Order4 : Type 0 where
   pub no_windows : (s : List ℕ) (b : Book) → reading s ≡ accepted b → All (λ set. set.needs.window ≡ Prelude.None) b.sets
       → (batch batch' : Batch) → IsDate batch.date → IsDate batch'.date → batch.flags ≡ batch'.flags → SameBatches s batch s batch'
 
+-- ==== Tell the lab what was off (02, order 5)
+-- A report that names the run r as failed is refused under the number n; the record comes back as it was, and nothing is written.
+abbrev pub RefusedUnder : ℕ → List ℕ → Record → List ℕ → List ℕ → List ℕ → Type 0
+RefusedUnder n s q paths walk r = (x : Refusal) × (number_of x ≡ n) × (reporting s q paths walk (failed r) ≡ answering (Err (rejected x q)) paths walk)
+
+-- What a lab is told of the run r that it names, where nothing comes before it (`Tried`).
+pub record Told (s : List ℕ) (b : Book) (q : Record) (paths walk r : List ℕ) : Type 0 where
+  -- 'It refuses with 16 a named run of under 2 or over 8 grades, ..'
+  pub size : RefusedUnder 16 s q paths walk r ↔ ((length r < 2) ⊎ (8 < length r))
+  -- '.. then with 17 one with a grade not below the count, ..'
+  pub grade : RefusedUnder 17 s q paths walk r ↔ ((2 ≤ length r) × (length r ≤ 8) × (v : ℕ) × Memᴰ v r × (b.count ≤ v))
+  -- '.. both just before 12.' '12 keeps only a proper run that isn't in the standing line-up.'
+  pub elsewhere : RefusedUnder 12 s q paths walk r ↔ (IsRun b.count r × (Occurs r (take q.length walk) → ⊥))
+  -- 13 comes after them, and is for what it was for.
+  pub full : RefusedUnder 13 s q paths walk r ↔ (IsRun b.count r × Occurs r (take q.length walk) × (256 ≤ q.known))
+  -- What 12 was for the three are for now ...
+  pub together : (RefusedUnder 16 s q paths walk r ⊎ RefusedUnder 17 s q paths walk r ⊎ RefusedUnder 12 s q paths walk r)
+      ↔ (IsRun b.count r × Occurs r (take q.length walk) → ⊥)
+  -- ... there is no other number, and what was accepted is accepted.
+  pub no_other : (n : ℕ) → RefusedUnder n s q paths walk r → Memᴰ n (16 ∷ 17 ∷ 12 ∷ 13 ∷ [])
+  pub taken : ((q' : Record) × ((reporting s q paths walk (failed r)).answer ≡ Ok q')) ↔ (IsRun b.count r × Occurs r (take q.length walk) × (q.known < 256))
+
+pub record Order5 : Type 0 where
+  pub told : (s : List ℕ) (b : Book) → reading s ≡ accepted b → (q : Record) (paths walk : List ℕ) → Tried b q paths walk → (r : List ℕ) → Told s b q paths walk r
+  -- A run that is known already is by the rules and stands nowhere: 12.
+  pub known : (s : List ℕ) (b : Book) → reading s ≡ accepted b → (q : Record) (paths walk : List ℕ) → Tried b q paths walk → (r : List ℕ) → Memᴰ r (spelled q.known paths)
+      → RefusedUnder 12 s q paths walk r
+  -- 11 comes before all of them: after the trials it is told of any run.
+  pub over : (s : List ℕ) (b : Book) → reading s ≡ accepted b → (q : Record) (paths walk : List ℕ) → InOrder b q paths walk → q.stage ≢ 0
+      → (r : List ℕ) → RefusedUnder 11 s q paths walk r
+
 -- ==== Demand 3
 -- After an accepted begin β the reports ρs were made, each on what the one before it left. `done` are those that were answered with
 -- acceptance; record and areas stand as l after the last.
@@ -544,8 +578,8 @@ module _ (β : AcceptedBegin) where
     pub nothing : (l.answer.stage ≡ 2) ↔ None g (bound ++ named done) start end
     pub nothing-stands : l.answer.stage ≡ 2 → (l.answer.length ≡ 0) × (l.answer.litres ≡ 0)
     pub passed-stage : (l.answer.stage ≡ 1) ↔ (passes done ≡ 1)
-    -- One more report is refused only for what its lab does: 11, 12, 13.
-    pub refusals : (ρ : Report) (x : Refusal) (r : Record) → answer_on s l ρ ≡ Err (rejected x r) → Memᴰ (number_of x) (11 ∷ 12 ∷ 13 ∷ [])
+    -- One more report is refused only for what its lab does: 11, 16, 17, 12, 13.
+    pub refusals : (ρ : Report) (x : Refusal) (r : Record) → answer_on s l ρ ≡ Err (rejected x r) → Memᴰ (number_of x) (11 ∷ 16 ∷ 17 ∷ 12 ∷ 13 ∷ [])
 
   -- Demand 3, sentence by sentence, where the lab is true to R.
   pub record LabOutcome (R : List (List ℕ)) (ρs done : List Report) (l : Leaves Record) : Type 0 where

@@ -11,7 +11,7 @@ use Rattle.walks.specs.Best.{Feasible}
 use Rattle.walks.proofs.Best.{Best-mono}
 use Rattle.walks.specs.Feasible.{is_feasible}
 use Rattle.walks.proofs.Feasible.{is_feasible→Feasible}
-use Rattle.book.specs.declared.Refusal.TheVariants.{NotStanding}
+use Rattle.book.specs.declared.Refusal.TheVariants.{NoVertex}
 use Rattle.book.specs.Book.{all_paths, is_path, are_vertices}
 use Rattle.book.specs.Reading.{reading, read_as}
 use Rattle.rules.specs.Binding.{covers, applied, once}
@@ -60,10 +60,10 @@ pub record Sums : Type 0 where
   pub bound-11 : ForDates (λ date. (paths : List ℕ) → area_size ≤ length paths → bound_as (binding bytes_stutter (marks 3 date) paths) ≡ Ok 3)
   pub plan-11 : ForDates (λ date. Plans bytes_stutter (marks 3 date) 0 3 (walked 450 5) (0 ∷ 1 ∷ 2 ∷ 1 ∷ 2 ∷ 3 ∷ []))
   pub printed_11 : ForDateBytes (λ date. Prints ((0 ∷ 3 ∷ 0 ∷ 3 ∷ []) ++ (date ++ bytes_stutter)) listing)
-  -- Named at the start of marks 3, where 0 1 2 1 2 3 stands: 2 1 2 and 2 1 2 3 are taken; 3 4, whose 4 is no grade, is refused under 12.
+  -- Named at the start of marks 3, where 0 1 2 1 2 3 stands: 2 1 2 and 2 1 2 3 are taken; 3 4, whose 4 is no grade, is refused under 17.
   pub takes-212 : ForLent (λ paths walk. refusal graph_a (begun-3 paths walk) (failed (2 ∷ 1 ∷ 2 ∷ [])) ≡ none)
   pub takes-2123 : ForLent (λ paths walk. refusal graph_a (begun-3 paths walk) (failed (2 ∷ 1 ∷ 2 ∷ 3 ∷ [])) ≡ none)
-  pub refuses-34 : ForLent (λ paths walk. refusal graph_a (begun-3 paths walk) (failed (3 ∷ 4 ∷ [])) ≡ some NotStanding)
+  pub refuses-34 : ForLent (λ paths walk. refusal graph_a (begun-3 paths walk) (failed (3 ∷ 4 ∷ [])) ≡ some NoVertex)
 
 plans-under : (F : List (List ℕ)) → ForbiddenSet 4 F → (w : List ℕ) (n k : ℕ) → Plan graph_a F 0 3 w n k → PlansUnder F (walked n k) w
 plans-under F set w n k p beyond walk long =

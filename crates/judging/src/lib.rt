@@ -6,16 +6,16 @@ ghost use Rattle.walks.specs.Graph.{from_arcs};
 ghost use Rattle.walks.specs.Walk.{is_walk, weight_of};
 ghost use Rattle.walks.specs.Feasible.{is_feasible};
 ghost use Rattle.walks.specs.Avoid.{occurs as Avoid-occurs};
-ghost use Rattle.book.specs.Book.{Book, graph, is_path};
+ghost use Rattle.book.specs.Book.{Book, graph};
 ghost use Rattle.book.specs.Refusal.{all_hold, refusal_by};
 ghost use Rattle.book.specs.Tables.{IsGraph};
 ghost use Rattle.rules.specs.Area.{spelled, valid};
 ghost use Rattle.limits.specs.Limits.{area_size, longest};
-ghost use Rattle.trial_rules.specs.Trials.{number_tests, is_record};
+ghost use Rattle.trial_rules.specs.Trials.{failed, said_tests, number_tests, is_record};
 ghost use Rattle.judging.specs.Judging.{state_of, judge_tests, judged_as};
 
 use book::Refusal;
-use limits::{AREA, LONGEST, MOST_VERTICES};
+use limits::{AREA, LONGEST, MOST_PATHS, MOST_VERTICES};
 use trial_record::Record;
 use walks::{ArcTable, PathArea};
 
@@ -115,9 +115,23 @@ fn occurs(path: &[u8], walk: &[u8]) -> bool
     path.is_empty() || walk.windows(path.len()).any(|part| path == part)
 }
 
-// 12: whether a named path is one by the book's rules, and stands in the walk.
-pub fn is_named(named: &[u8], vertices: usize, walk: &[u8]) -> bool
-    ensures { result ≡ is_path vertices named.now && Avoid-occurs named.now walk.now }
+// 16, 17, 12 and 13: what a report is refused for by the path that it names. Of the state the tests of these read the record and the walk's area alone.
+pub fn judge_named(arcs: ArcTable, rec: Record, walk: &[u8], named: &[u8]) -> Result<(), Refusal>
+    requires graph { (b : Book) × IsGraph b arcs.vertices arcs.weights.now }
+    requires within { rec.length ≤ length walk.now }
+    ensures { (b : Book) → IsGraph b arcs.entry.vertices arcs.entry.weights.now → result ≡ judged_as (refusal_by (said_tests (graph b) (state_of rec [] walk.now) (failed named.now))) }
 {
-    book::is_path(named, vertices) && occurs(named, walk)
+    if !book::is_path_length(named.len()) {
+        return Err(Refusal::PathLength);
+    }
+    if !book::are_vertices(named, arcs.vertices) {
+        return Err(Refusal::NoVertex);
+    }
+    if !occurs(named, &walk[..rec.length]) {
+        return Err(Refusal::NotStanding);
+    }
+    if MOST_PATHS <= rec.known {
+        return Err(Refusal::Full);
+    }
+    Ok(())
 }

@@ -11,8 +11,9 @@ use Rattle.book.specs.Refusal.{Test, test, refusal_by}
 use Rattle.book.specs.RefusalLaws.{Hold}
 use Rattle.book.proofs.RefusalLaws.{none→hold, hold→none, first-of_append}
 use Rattle.limits.specs.Limits.{area_size, longest}
-use Rattle.trial_rules.specs.Trials.{Report, State, path_area, area_tests, begin_tests, oracle_tests, state_tests, has_room, refusal, Valid, is_valid, Begin}
+use Rattle.trial_rules.specs.Trials.{Report, State, path_area, area_tests, begin_tests, oracle_tests, state_tests, refusal, Valid, is_valid, Begin}
 use Rattle.trial_rules.proofs.Tests.{is_valid→Valid, Valid→is_valid}
+use Rattle.trial_rules.proofs.Named.{said→, →said}
 use Rattle.trial_rules.specs.Accepted.{Accepted, Accepts}
 
 pub begin-accepted : (b : Begin) → Accepted b
@@ -28,12 +29,13 @@ module _ (g : Graph) (σ : State) (ρ : Report) where
   unfolding refusal
   accepts e =
       let h = none→hold (state_tests g σ ρ) e in
+      let said = said→ g σ ρ h.1.1.1.1 in
       record {
         area-fits = leb-true _ _ h.1.0;
         valid = is_valid→Valid g σ (true→T _ h.1.1.0);
         stage = eqb-true _ _ h.1.1.1.0;
-        named = true→T _ h.1.1.1.1.0;
-        room = true→T _ h.1.1.1.1.1.0;
+        named = said.0;
+        room = said.1;
       }
 
   -- the tests of 8 and 9 hold
@@ -44,7 +46,7 @@ module _ (g : Graph) (σ : State) (ρ : Report) where
   unfolding refusal
   not-refused h =
       let (paths-fit, (area-fits, (valid, _))) = in_order h.area-fits h.valid in
-      hold→none (state_tests g σ ρ) (paths-fit, (area-fits, (valid, (eq-eqb _ _ h.stage, (T→true _ h.named, (T→true _ h.room, tt))))))
+      hold→none (state_tests g σ ρ) (paths-fit, (area-fits, (valid, (eq-eqb _ _ h.stage, →said g σ ρ h.named h.room))))
 
   -- In a valid state with a line-up area that is long enough, only the oracle's tests are left.
   pub only-oracle : longest ≤ length σ.area → Valid g σ → refusal g σ ρ ≡ refusal_by (oracle_tests g σ ρ)

@@ -1,12 +1,12 @@
 -- The laws of what specs/Claim.antt defines.
-use Rattle.std.specs.Prelude.{ℕ, ◌+◌, ◌≡◌, Bool, true, false, cond, ◌&&◌, eqb, length}
+use Rattle.std.specs.Prelude.{ℕ, ◌+◌, ◌≡◌, Bool, true, false, cond, eqb, length}
 use Rattle.std.proofs.Math.Path.{refl, ap}
 use Rattle.std.proofs.Common.{sym, ◌∙◌, arith, eqb-true, eq-eqb, length-append, length-drop}
 use mathlib.Core.List.{List, [], ◌∷◌, Memᴰ}
 use Rattle.std.proofs.Math.Logic.{by_cases}
 use Rattle.std.proofs.Math.Option.{Option, none, some}
 use Rattle.std.proofs.Math.Decide.{ℕ_discrete}
-use Rattle.lists.specs.Test.{true→T}
+use Rattle.lists.specs.Test.{T→true, true→T, and-true}
 use Rattle.walks.specs.Graph.{Graph}
 use Rattle.walks.specs.Avoid.{occurs}
 use Rattle.walks.proofs.Avoid.{occurs→Occurs}
@@ -15,7 +15,7 @@ use Rattle.book.specs.declared.Refusal.{Refusal}
 use Rattle.book.specs.Refusal.{numbered}
 use Rattle.book.specs.RefusalLaws.{Fails, here, later}
 use Rattle.book.proofs.RefusalLaws.{first-fails}
-use Rattle.book.specs.Book.{is_path}
+use Rattle.book.specs.Book.{path_length, are_vertices, is_path}
 use Rattle.rules.specs.Area.{written}
 use Rattle.limits.specs.Limits.{area_size}
 use Rattle.rules.proofs.Sets.{refuted}
@@ -96,14 +96,15 @@ module _ (g : Graph) (plan : Plan) where
 -- A path that is known already does not stand in the walk: naming it is refused under 12.
 pub known-refused : (b : Begin) (done : List Report) (σ : State) → Claim b done σ → σ.rec.stage ≡ 0 → (r : List ℕ) → Memᴰ r σ.forbidden
     → refusal b.graph σ (failed r) ≡ some (numbered 12 0)
+unfolding is_path
 known-refused b done σ c e r m =
+    let (sized, vertices) = proper in
     let fails : Fails (oracle_tests b.graph σ (failed r)) (numbered 12 0) =
-    later (eq-eqb _ _ e) (here (not_named (is_path b.graph.count r) (refuted (occurs r (standing σ)) absent))) in
+    later (eq-eqb _ _ e) (later sized (later vertices (here (refuted (occurs r (standing σ)) absent)))) in
     c.refusals (failed r) ∙ first-fails fails
   where
     absent : occurs r (standing σ) ≡ true → ⊥
     absent t = (c.valid.walk (λ f. omega arith)).clear r m (occurs→Occurs r (standing σ) (true→T _ t))
 
-    not_named : (x : Bool) {y : Bool} → y ≡ false → x && y ≡ false
-    not_named true n = n
-    not_named false n = refl
+    proper : (path_length (length r) ≡ true) × (are_vertices b.graph.count r ≡ true)
+    proper = and-true (path_length (length r)) (are_vertices b.graph.count r) (T→true _ (c.valid.set.taken r m))

@@ -34,5 +34,5 @@ module _ (b : Begin) where
     pub best : σ.rec.stage ≢ 2 → Best g σ.forbidden s t (standing σ)
     pub nothing : (σ.rec.stage ≡ 2) ↔ None g σ.forbidden s t
     pub passed-stage : (σ.rec.stage ≡ 1) ↔ (passes done ≡ 1)
-    -- a report is refused only for what its oracle does: 11, 12, 13
+    -- a report is refused only for what its oracle does: 11, 16, 17, 12, 13
     pub refusals : (ρ : Report) → refusal g σ ρ ≡ refusal_by (oracle_tests g σ ρ)

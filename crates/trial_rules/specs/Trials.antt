@@ -11,7 +11,7 @@ use Rattle.walks.specs.Best.{Feasible}
 use Rattle.walks.specs.Feasible.{is_feasible}
 use Rattle.book.specs.declared.Refusal.{Refusal}
 use Rattle.book.specs.Refusal.{Test, test, all_hold, refusal_by}
-use Rattle.book.specs.Book.{is_path}
+use Rattle.book.specs.Book.{path_length, are_vertices, is_path}
 use Rattle.states.specs.Chosen.{Decided}
 use Rattle.rules.specs.Binding.{once}
 use Rattle.rules.specs.Area.{written}
@@ -113,7 +113,22 @@ is_valid g σ = is_forbidden_set g.count σ.forbidden && eqb σ.rec.known (lengt
 abbrev pub area_tests : List ℕ → List ℕ → List Test
 area_tests paths area = test 8 (leb area_size (length paths)) ∷ test 8 (leb longest (length area)) ∷ []
 
--- 12: the named path is one that the book's rules take, and stands in the standing walk.
+-- 16: the named path has 2 to 8 vertices.
+abbrev pub has_length : Report → Bool
+has_length passed = true
+has_length (failed r) = path_length (length r)
+
+-- 17: each is below the count.
+abbrev pub has_vertices : Graph → Report → Bool
+has_vertices g passed = true
+has_vertices g (failed r) = are_vertices g.count r
+
+-- 12: it stands in the standing walk.
+abbrev pub is_standing : State → Report → Bool
+is_standing σ passed = true
+is_standing σ (failed r) = occurs r (standing σ)
+
+-- In one, as 12 was before order 5: the named path is one that the book's rules take, and stands in the standing walk (proofs/Named.antt: `together`).
 abbrev pub is_named : Graph → State → Report → Bool
 is_named g σ passed = true
 is_named g σ (failed r) = is_path g.count r && occurs r (standing σ)
@@ -130,15 +145,19 @@ begin_tests batch g s t paths area = area_tests paths area ++ (test 7 (ltb s g.c
 abbrev pub begin_refusal : Batch → Graph → ℕ → ℕ → List ℕ → List ℕ → Option Refusal
 begin_refusal batch g s t paths area = refusal_by (begin_tests batch g s t paths area)
 
--- What a report is refused for by what it says: 12, 13.
-abbrev pub said_tests : Graph → State → Report → List Test
-said_tests g σ ρ = test 12 (is_named g σ ρ) ∷ test 13 (has_room σ ρ) ∷ []
+-- What the path that a report names is refused for: 16, 17, 12.
+abbrev pub named_tests : Graph → State → Report → List Test
+named_tests g σ ρ = test 16 (has_length ρ) ∷ test 17 (has_vertices g ρ) ∷ test 12 (is_standing σ ρ) ∷ []
 
--- The oracle's own tests: 11, 12, 13.
+-- What a report is refused for by what it says: those, and 13.
+abbrev pub said_tests : Graph → State → Report → List Test
+said_tests g σ ρ = named_tests g σ ρ ++ (test 13 (has_room σ ρ) ∷ [])
+
+-- The oracle's own tests: 11, 16, 17, 12, 13.
 abbrev pub oracle_tests : Graph → State → Report → List Test
 oracle_tests g σ ρ = test 11 (eqb σ.rec.stage 0) ∷ said_tests g σ ρ
 
--- A report: 8, 9, 11, 12, 13.
+-- A report: 8, 9, and the oracle's own.
 abbrev pub state_tests : Graph → State → Report → List Test
 state_tests g σ ρ = area_tests (path_area σ) σ.area ++ (test 9 (is_valid g σ) ∷ oracle_tests g σ ρ)
 

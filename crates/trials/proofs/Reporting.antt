@@ -1,11 +1,10 @@
 -- A report, by what its tests and planning say.
 use Prim.Native.Nat.{ℕ, suc, ◌+◌, ◌*◌, ◌≤◌, ◌<◌}
-use mathlib.Core.Bool.{Bool, true, false, ◌&&◌}
+use mathlib.Core.Bool.{true}
 use mathlib.Core.List.{List, [], ◌∷◌, ◌++◌, append_assoc}
 use mathlib.Core.Option.{Option, none, some}
 use mathlib.Core.Path.{◌≡◌, refl, sym, ap, ap₂, subst, ◌∙◌}
 use native.Mathlib.Omega.{arith}
-use borrow.Author.Tests.{lt-ltb, le-ltb}
 use lib.Dec.{ltb→lt}
 use lib.ListN.{length, set, take, drop, length-append, length-map, length-set}
 use lib.Seq.{paste, set-append_left, take-append-le, drop-append-le}
@@ -15,10 +14,8 @@ use Rattle.walks.specs.Avoid.{occurs}
 use Rattle.states.specs.Chosen.{chosen}
 use Rattle.book.specs.declared.Loaded.{Loaded}
 use Rattle.book.specs.declared.Refusal.{Refusal}
-use Rattle.book.specs.declared.Refusal.TheVariants.{NotStanding, Full}
 use Rattle.book.specs.Refusal.{refusal_by}
-use Rattle.book.specs.RefusalLaws.{Fails, here, later}
-use Rattle.book.proofs.RefusalLaws.{first-fails, hold→none, first-kept, first-of_append}
+use Rattle.book.proofs.RefusalLaws.{first-kept, first-of_append}
 use Rattle.book.specs.Book.{Book, WellFormed, IsPath, is_path, graph}
 use Rattle.book.proofs.BookLaws.{all_map, is_path→IsPath}
 use Rattle.book.proofs.EntryLaws.{length-entries, entries_snoc}
@@ -27,12 +24,12 @@ use Rattle.book.specs.Tables.{IsGraph, LoadedAs, entries, padded}
 use Rattle.book.proofs.LoadedLaws.{loaded}
 use Rattle.book.proofs.Padded.{padded-entry}
 use Rattle.rules.specs.Area.{written, blocks, spelled, valid}
-use Rattle.limits.specs.Limits.{area_size, longest, most_paths}
+use Rattle.limits.specs.Limits.{area_size, longest}
 use Rattle.rules.proofs.AreaLaws.{length-blocks}
 use Rattle.rules.proofs.ValidLaws.{written-length, written-valid, written-spells}
 use Rattle.routes.specs.Plan.{Searched}
 use Rattle.trial_record.specs.declared.Record.{Record}
-use Rattle.trial_rules.specs.Trials.{Report, passed, failed, State, ForbiddenSet, passed_in, stage_of, litres_of, length_of, step, said_tests, is_named}
+use Rattle.trial_rules.specs.Trials.{Report, passed, failed, State, ForbiddenSet, passed_in, stage_of, litres_of, length_of, step, said_tests}
 use Rattle.trial_record.specs.Steps.{Found, passed_of, failed_of, replanned, Recordable}
 use Rattle.trials.specs.Operations.{answering, rejected, reported_as, reporting_of, reporting}
 use Rattle.judging.specs.Judging.{state_of, judge_tests, report_tests, judged_as}
@@ -84,7 +81,7 @@ module _ {s : List ℕ} {vertices : ℕ} {weights : List ℕ} (h : InBook s vert
       answered ρ (some x) (first-kept (judge_tests r paths walk b) (said_tests (graph b) σ ρ) x (judged_refused _ x (judged b h.graph-is)))
 
   module _ (stands : Judged (Ok tt)) where
-    -- 12 and 13 are left
+    -- what the report says is left
     left_over : (ρ : Report) → refusal_by (report_tests r paths walk ρ b) ≡ refusal_by (said_tests (graph b) σ ρ)
     left_over ρ = first-of_append (judge_tests r paths walk b) (said_tests (graph b) σ ρ) (judged_standing _ (stands b h.graph-is))
 
@@ -98,27 +95,16 @@ module _ {s : List ℕ} {vertices : ℕ} {weights : List ℕ} (h : InBook s vert
         ∙ answered passed none (left_over passed)
 
     module _ (p : List ℕ) where
-      -- 12, as the code tests it
-      abbrev Named : Bool → Type 0
-      Named found = found ≡ (is_path vertices p && occurs p (take r.length walk))
+      -- what the judgement of the named path answers
+      abbrev Heard : Result Unit Refusal → Type 0
+      Heard v = (c : Book) → IsGraph c vertices weights → v ≡ judged_as (refusal_by (said_tests (graph c) (state_of r [] walk) (failed p)))
 
-      named-is : {found x : Bool} → Named found → found ≡ x → is_named (graph b) σ (failed p) ≡ x
-      named-is told e = ap (λ n. is_path n p && occurs p (take r.length walk)) (sym h.graph-is.vertices_are) ∙ sym told ∙ e
-
-      said_fails : {q : Refusal} → Fails (said_tests (graph b) σ (failed p)) q
-          → answering (Err (rejected q r)) paths walk ≡ reporting s r paths walk (failed p)
-      said_fails {q} f = answered (failed p) (some q) (left_over (failed p) ∙ first-fails f)
-
-      pub not_named : {found : Bool} → Named found → found ≡ false → answering (Err (rejected NotStanding r)) paths walk ≡ reporting s r paths walk (failed p)
-      not_named told e = said_fails (here (named-is told e))
-
-      pub full : {found : Bool} → Named found → found ≡ true → most_paths ≤ r.known → answering (Err (rejected Full r)) paths walk ≡ reporting s r paths walk (failed p)
-      full told e many = said_fails (later (named-is told e) (here (le-ltb r.known most_paths many)))
+      pub refused_named : {x : Refusal} → Heard (Err x) → answering (Err (rejected x r)) paths walk ≡ reporting s r paths walk (failed p)
+      refused_named {x} heard = answered (failed p) (some x) (left_over (failed p) ∙ judged_refused _ x (heard b h.graph-is))
 
       -- nothing is refused
-      pub ready : {found : Bool} → Named found → found ≡ true → r.known < most_paths → refusal_by (report_tests r paths walk (failed p) b) ≡ none
-      ready told e room =
-          left_over (failed p) ∙ hold→none (said_tests (graph b) σ (failed p)) (named-is told e, (lt-ltb r.known most_paths room, tt))
+      pub ready : Heard (Ok tt) → refusal_by (report_tests r paths walk (failed p) b) ≡ none
+      ready heard = left_over (failed p) ∙ judged_standing _ (heard b h.graph-is)
 
 -- ---- an accepted failed report
 paste-front : (d rest s : List ℕ) (at n : ℕ) → at + n ≤ length d → paste (d ++ rest) at s n ≡ paste d at s n ++ rest

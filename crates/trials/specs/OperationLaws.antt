@@ -25,6 +25,7 @@ use Rattle.trials.specs.declared.Rejected.{Rejected}
 use Rattle.trials.specs.Operations.{rejected, reported_as, reporting_of}
 use Rattle.judging.specs.Judging.{state_of, report_tests}
 use Rattle.trial_rules.proofs.Tests.{forbidden-set, once→Distinct, set-paths, set-once, →is_forbidden_set, Valid→is_valid, is_valid→Valid}
+use Rattle.trial_rules.proofs.Named.{said→}
 use Rattle.trial_rules.specs.Accepted.{Accepts}
 
 -- ---- the runs area
@@ -72,6 +73,7 @@ module _ (b : Book) (r : Record) (paths walk : List ℕ) where
       let σ = state_of r paths walk in
       let h = none→hold (report_tests r paths walk ρ b) e in
       let v = valid→Valid b.count paths r.known h.1.1.0 in
+      let said = said→ g σ ρ h.1.1.1.1.1 in
       let area-is : path_area σ ≡ paths = ap (λ l. l ++ drop area_size paths) (sym v.bytes) ∙ take-append-drop area_size paths in
       let size : length σ.forbidden ≡ r.known = length-map (blocks r.known paths) _ ∙ length-blocks r.known paths in
       let set : ForbiddenSet b.count σ.forbidden =
@@ -83,8 +85,8 @@ module _ (b : Book) (r : Record) (paths walk : List ℕ) where
               area-fits = leb-true _ _ h.1.0;
               valid = is_valid→Valid g σ (valid-parts g σ set (sym size) h.1.1.1.0);
               stage = eqb-true r.stage 0 h.1.1.1.1.0;
-              named = true→T _ h.1.1.1.1.1.0;
-              room = true→T _ h.1.1.1.1.1.1.0;
+              named = said.0;
+              room = said.1;
             };
         area-is = area-is;
       }

@@ -13,8 +13,8 @@ ghost use Rattle.judging.specs.Judging.{report_tests};
 
 use crate::Rejected;
 use book::Refusal;
-use judging::{is_named, judge};
-use limits::{ENTRY, MOST_PATHS};
+use judging::{judge, judge_named};
+use limits::ENTRY;
 use trial_record::Record;
 use walks::{ArcTable, PathArea};
 
@@ -71,12 +71,7 @@ fn accept_failed(
     let book = book::load(bytes)?;
     let arcs = book.arcs();
     judge(arcs, rec, paths, walk)?;
-    if !is_named(named, arcs.vertices, &walk[..rec.length]) {
-        return Err(Refusal::NotStanding);
-    }
-    if MOST_PATHS <= rec.known {
-        return Err(Refusal::Full);
-    }
+    judge_named(arcs, rec, walk, named)?;
     Ok(replan(arcs, rec, paths, walk, named))
 }
 

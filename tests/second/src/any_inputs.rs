@@ -12,6 +12,7 @@ use crate::draft::Draft;
 use crate::faults::{self, faults, Fault};
 use crate::generate;
 use crate::inputs;
+use crate::named_runs;
 use crate::plan::LINEUP_AREA;
 use crate::programs::{Report, Trials};
 use crate::random::Random;
@@ -36,13 +37,22 @@ pub(crate) fn any_case(random: &mut Random, call: Call) -> Case {
     let (draft, mut case) = good(random, call);
     for _ in 0..random.pick(&[0, 0, 1, 1, 1, 1, 1, 1, 2]) {
         if faults::can_be_spoilt(&case) {
-            (any_fault(random, call).spoil)(random, &mut case);
+            spoil(random, &mut case, call);
         }
     }
     if random.chance(4) {
         case.book = damaged(random, &draft);
     }
     case
+}
+
+/// By a fault, or by another named run where the call takes one.
+fn spoil(random: &mut Random, case: &mut Case, call: Call) {
+    if call == Call::Failed && random.chance(35) {
+        named_runs::name_any(random, case);
+    } else {
+        (any_fault(random, call).spoil)(random, case);
+    }
 }
 
 /// Mostly one that concerns the call; another changes nothing.
@@ -82,20 +92,13 @@ fn after(random: &mut Random, mut trials: Trials, batch: Batch, call: Call) -> C
         }
     }
     let book = book::read(trials.book).expect("trials began with this book");
-    let Trials { book: bytes, record, runs_area, lineup_area } = trials;
-    let mut case = Case {
-        record,
-        batch,
-        runs: runs_area.to_vec(),
-        lineup: lineup_area.to_vec(),
-        list: Vec::new(),
-        book: bytes.to_vec(),
-    };
-    if record.stage == STANDS {
+    let mut case = case_of(&trials, batch, &[]);
+    if case.record.stage == STANDS {
         if random.chance(40) {
             stand_another(random, &mut case, &book);
         }
-        if random.chance(6) {
+        // Then a failed report can come to 13.
+        if random.chance(if call == Call::Failed { 35 } else { 6 }) {
             fill_known(random, &mut case, &book);
         }
         if random.chance(6) {
@@ -105,6 +108,18 @@ fn after(random: &mut Random, mut trials: Trials, batch: Batch, call: Call) -> C
     case.list = any_list(random, &case, &book, call);
     around(random, &mut case, call);
     case
+}
+
+/// The case of a call on trials as they stand.
+pub fn case_of(trials: &Trials, batch: Batch, list: &[u8]) -> Case {
+    Case {
+        record: trials.record,
+        batch,
+        runs: trials.runs_area.to_vec(),
+        lineup: trials.lineup_area.to_vec(),
+        list: list.to_vec(),
+        book: trials.book.to_vec(),
+    }
 }
 
 /// As many known runs as there may be, none in the standing line-up, if the book
@@ -176,6 +191,7 @@ fn any_list(random: &mut Random, case: &Case, book: &Book, call: Call) -> Vec<u8
     match call {
         Call::Check if random.chance(20) => standing.to_vec(),
         Call::Check => inputs::any_lineup(random, book),
+        Call::Failed if random.chance(20) => named_runs::any(random, standing, book.grades() as u8),
         _ if random.chance(80) => generate::part_of(random, standing).unwrap_or_default(),
         _ => {
             let place = random.below(standing.len() + 1);
@@ -289,14 +305,7 @@ pub fn begun_on_book_a() -> Case {
     let book = samples::book_a().bytes();
     let batch = samples::batch(3);
     let trials = Trials::begin(&book, batch, 0, 3).expect("the trials of book A begin");
-    Case {
-        record: trials.record,
-        batch,
-        runs: trials.runs_area.to_vec(),
-        lineup: trials.lineup_area.to_vec(),
-        list: vec![1, 2, 3],
-        book: book.clone(),
-    }
+    case_of(&trials, batch, &[1, 2, 3])
 }
 
 /// The chosen cases: on book A, with areas of just their size and with larger
@@ -329,6 +338,9 @@ pub fn chosen(random: &mut Random, call: Call) -> Vec<Vec<u8>> {
     cases.extend((book_from - 4..book_from).map(|length| whole[..length].to_vec()));
     // About the end of the head, which the date is.
     cases.extend((70..80).map(|length| whole[..length].to_vec()));
+    if call == Call::Failed {
+        cases.extend(named_runs::single_reports().iter().map(|(case, _)| case.bytes()));
+    }
     cases
 }
 

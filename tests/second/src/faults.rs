@@ -1,6 +1,6 @@
-//! Faults of a single call, one at a time: each condition of 01's refusals 7,
-//! 8, 9 and 11 to 13 on what a report takes, on both sides where it has two; and bad
-//! dates, which a report takes no notice of.
+//! Faults of a single call, one at a time: each condition of the refusals 7, 8, 9, 11,
+//! 12, 16 and 17 of 01 and 02 on what a report takes, on both sides where it has two; and
+//! bad dates, which a report takes no notice of.
 
 use crate::binding::{self, ENTRY, MOST_KNOWN, RUNS_AREA};
 use crate::book::{self, Run, LONGEST_RUN};
@@ -339,15 +339,15 @@ pub fn faults() -> Vec<Fault> {
                 *byte = random.byte();
             }
         }),
-        fault("nothing named", Part::Named, Some(12), |_, case| case.list.clear()),
-        fault("one grade named", Part::Named, Some(12), |_, case| case.list.truncate(1)),
-        fault("nine grades named", Part::Named, Some(12), |_, case| {
+        fault("nothing named", Part::Named, Some(16), |_, case| case.list.clear()),
+        fault("one grade named", Part::Named, Some(16), |_, case| case.list.truncate(1)),
+        fault("nine grades named", Part::Named, Some(16), |_, case| {
             case.list = standing(case).iter().copied().cycle().take(9).collect()
         }),
-        fault("nine grades named, all different", Part::Named, Some(12), |_, case| {
+        fault("nine grades named, all different", Part::Named, Some(16), |_, case| {
             case.list = (0..9).collect()
         }),
-        fault("300 grades named", Part::Named, Some(12), |_, case| case.list = vec![0; 300]),
+        fault("300 grades named", Part::Named, Some(16), |_, case| case.list = vec![0; 300]),
         fault("equal neighbours named", Part::Named, Some(12), |_, case| {
             case.list = vec![case.lineup[0], case.lineup[0]]
         }),
@@ -370,13 +370,10 @@ pub fn faults() -> Vec<Fault> {
         fault(
             "a grade named that is not below the count",
             Part::Named,
-            Some(12),
+            Some(17),
             |random, case| {
-                let place = random.below(case.list.len().max(1));
-                let bad = random.pick(&[grades(case), 64, 255]);
-                if let Some(grade) = case.list.get_mut(place) {
-                    *grade = bad;
-                }
+                let grades = grades(case);
+                generate::spoil_grade(random, &mut case.list, grades);
             },
         ),
         fault("a known run named", Part::Named, Some(12), |random, case| {
@@ -391,7 +388,7 @@ fn bad_date(random: &mut Random, case: &mut Case) {
 }
 
 /// The book's count of grades; 64 where the book is damaged.
-fn grades(case: &Case) -> u8 {
+pub(crate) fn grades(case: &Case) -> u8 {
     book::read(&case.book).map_or(64, |book| book.grades() as u8)
 }
 
@@ -401,7 +398,7 @@ fn other_grade(random: &mut Random, case: &Case, grade: u8) -> u8 {
 }
 
 /// The standing line-up, as far as its area goes.
-fn standing(case: &Case) -> &[u8] {
+pub(crate) fn standing(case: &Case) -> &[u8] {
     if case.record.stage == NONE {
         return &[];
     }

@@ -229,6 +229,15 @@ pub fn doubled(random: &mut Random, mut run: Run) -> Run {
     run
 }
 
+/// One of the grades becomes one that is not below the count.
+pub fn spoil_grade(random: &mut Random, run: &mut [u8], grades: u8) {
+    let place = random.below(run.len().max(1));
+    let bad = random.pick(&[grades, 64, 255]);
+    if let Some(grade) = run.get_mut(place) {
+        *grade = bad;
+    }
+}
+
 /// The run's first two or three grades over and over, as 0 1 0 1 or 1 0 1 0 1.
 fn repeated(random: &mut Random, run: &[u8]) -> Run {
     let period = random.between(2, 3).min(run.len());

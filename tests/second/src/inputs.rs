@@ -2,7 +2,7 @@
 
 use crate::any_inputs;
 use crate::binding::{Batch, ENTRY};
-use crate::book::{self, Book, Run};
+use crate::book::{self, Book, Run, LONGEST_RUN};
 use crate::changeovers::Changeover;
 use crate::check;
 use crate::damage::damaged;
@@ -10,6 +10,7 @@ use crate::dates::Date;
 use crate::draft::Draft;
 use crate::generate::{self, Size};
 use crate::kinds::Kind;
+use crate::named_runs;
 use crate::pass_inputs;
 use crate::plan::LINEUP_AREA;
 use crate::programs::{Report, Trials, MOST_INPUT};
@@ -335,7 +336,7 @@ fn lab_reports(random: &mut Random, mut trials: Trials) -> Vec<u8> {
             after_end -= 1;
         }
         let report = lab_report(random, &lab, &trials);
-        reports.extend(encode(&report));
+        reports.extend(report_bytes(report.as_report()));
         // Whether it is refused or not is for the replay to say.
         let _ = trials.try_report(report.as_report());
     }
@@ -392,10 +393,10 @@ impl LabReport {
 }
 
 /// A report as `replay` takes it.
-fn encode(report: &LabReport) -> Vec<u8> {
+pub fn report_bytes(report: Report) -> Vec<u8> {
     match report {
-        LabReport::Passed => vec![0],
-        LabReport::Failed(named) => failed_bytes(named),
+        Report::Passed => vec![0],
+        Report::Failed(named) => failed_bytes(named),
     }
 }
 
@@ -405,7 +406,9 @@ pub fn failed_bytes(named: &[u8]) -> Vec<u8> {
 }
 
 fn lab_report(random: &mut Random, lab: &Lab, trials: &Trials) -> LabReport {
-    if random.chance(lab.odd_percent) {
+    // More often near 13, and where more grades stand than a run may have.
+    let more = trials.record.known > 250 || trials.lineup().len() > LONGEST_RUN;
+    if random.chance(if more { 40 } else { lab.odd_percent }) {
         return LabReport::Failed(odd_run(random, trials));
     }
     if random.chance(lab.false_percent) {
@@ -429,11 +432,11 @@ fn false_report(random: &mut Random, lineup: &[u8]) -> LabReport {
     }
 }
 
-/// A list that refusal 12 is for, most of the time.
+/// A list that refusal 16, 17 or 12 is for, most of the time.
 fn odd_run(random: &mut Random, trials: &Trials) -> Run {
     let lineup = trials.lineup();
     let known = trials.record.known as usize;
-    match random.below(9) {
+    match random.below(14) {
         0 => Vec::new(),
         1 => vec![trials.record.start],
         2 => lineup
@@ -449,9 +452,13 @@ fn odd_run(random: &mut Random, trials: &Trials) -> Run {
         7 => generate::part_of(random, lineup)
             .map_or(Vec::new(), |run| generate::doubled(random, run)),
         // As it stands in the line-up, of a run's length or not.
-        _ => {
+        8 => {
             let place = random.below(lineup.len() + 1);
             lineup[place..].iter().take(random.between(2, 10)).copied().collect()
+        }
+        _ => {
+            let book = book::read(trials.book).expect("trials began with this book");
+            named_runs::any(random, lineup, book.grades() as u8)
         }
     }
 }

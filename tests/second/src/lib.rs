@@ -1,11 +1,11 @@
-//! A second fuel-sequence planner, written from paper 01 and orders 1 to 4 of paper 02
+//! A second fuel-sequence planner, written from paper 01 and orders 1 to 5 of paper 02
 //! alone, and the random books, vectors and comparisons that hold another planner against it.
 //!
 //! The planner: `book`, `changeovers`, `dates`, `binding`, `check`, `plan`, `board`,
 //! `passes`, `trials`, `text`, `programs`, `calls`, `tables` and `lists`. Its own check:
 //! `exhaustive`. What feeds tests: `random`, `draft`, `generate`, `seasons`, `damage`,
-//! `inputs`, `faults`, `any_inputs`, `table_inputs`, `pass_inputs`, `list_inputs`,
-//! `large`, `sources`, `samples`, `vectors`, `frames` and `kinds`.
+//! `inputs`, `faults`, `named_runs`, `any_inputs`, `table_inputs`, `pass_inputs`,
+//! `list_inputs`, `large`, `sources`, `samples`, `vectors`, `frames` and `kinds`.
 
 #![forbid(unsafe_code)]
 
@@ -28,6 +28,7 @@ pub mod kinds;
 pub mod large;
 pub mod list_inputs;
 pub mod lists;
+pub mod named_runs;
 pub mod pass_inputs;
 pub mod passes;
 pub mod plan;

@@ -86,18 +86,26 @@ pub fn replay(input: &[u8]) -> String {
 }
 
 fn replay_text(input: &[u8]) -> Result<String, Refusal> {
+    let (mut trials, _, reports) = read_replay(input)?;
+    let mut text = trials.text();
+    for report in reports {
+        text += &trials.report(report);
+    }
+    Ok(text)
+}
+
+/// The trials of an input of `replay`, just begun, their batch, and the reports to make.
+pub fn read_replay(input: &[u8]) -> Result<(Trials<'_>, Batch, Vec<Report<'_>>), Refusal> {
     let mut input = Input(input);
     let marks = input.word()?;
     let (start, end) = (input.byte()?, input.byte()?);
     let date = input.date()?;
     let length = input.double_word()? as usize;
     let book = input.take(length)?;
-    let mut trials = Trials::begin(book, Batch { marks, date }, start, end)?;
-    let mut text = trials.text();
-    while let Ok(report) = input.report() {
-        text += &trials.report(report);
-    }
-    Ok(text)
+    let batch = Batch { marks, date };
+    let trials = Trials::begin(book, batch, start, end)?;
+    let reports = std::iter::from_fn(|| input.report().ok()).collect();
+    Ok((trials, batch, reports))
 }
 
 /// `read_book`: one book.

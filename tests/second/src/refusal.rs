@@ -4,7 +4,7 @@
 pub struct Refusal {
     pub number: u8,
     /// The byte at which the bad field starts; in the list form of planning
-    /// the index of the bad item. Refusals 7 to 13 and 15 have none.
+    /// the index of the bad item. Refusals 7 to 13 and 15 to 17 have none.
     pub at: Option<usize>,
 }
 

@@ -11,6 +11,7 @@ use crate::inputs::{
     self, board_input, check_lineup_input, failed_bytes, plan_input, replay_input,
 };
 use crate::kinds::Kind;
+use crate::named_runs;
 use crate::pass_inputs;
 use crate::random::Random;
 use crate::seasons::{self, BAD_DATES, NO_DAYS};
@@ -935,6 +936,7 @@ fn replay_cases(random: &mut Random) -> Vec<Vec<u8>> {
     for _ in 0..6 {
         cases.push(inputs::replay_past_256(random));
     }
+    cases.extend(named_runs::series());
     cases
 }
 
@@ -1017,7 +1019,7 @@ fn replay_refused_begins() -> Vec<Vec<u8>> {
     cases
 }
 
-/// Lists that refusal 12 is for, then a report that is accepted.
+/// Lists that refusals 16, 17 and 12 are for, then a report that is accepted.
 fn replay_refused_reports() -> Vec<Vec<u8>> {
     let named: [&[u8]; 13] = [
         &[],

@@ -1,7 +1,8 @@
-//! Trials: 01, "Trials", with refusals 8, 7, 15, 9, 11, 12 and 13.
+//! Trials: 01, "Trials", with refusals 8, 7, 15, 9, 11, 16, 17, 12 and 13. 16 and 17 are
+//! those of 02, order 5.
 
 use crate::binding::{self, Batch, MOST_KNOWN, RUNS_AREA};
-use crate::book::{self, Book, Run};
+use crate::book::{self, Book, Run, LONGEST_RUN, SHORTEST_RUN};
 use crate::check;
 use crate::plan::{self, Plan, LINEUP_AREA};
 use crate::refusal::Refusal;
@@ -74,12 +75,7 @@ pub fn report_failed(
     named: &[u8],
 ) -> Result<Record, Refusal> {
     let (book, mut runs) = judge_report(bytes, &record, runs_area, lineup_area)?;
-    let lineup = &lineup_area[..record.length as usize];
-    // A grade not below the count is in no line-up, so `is_run` refuses
-    // nothing more than 12 does.
-    if !book::is_run(named, book.grades()) || !check::stands_in(named, lineup) {
-        return Err(Refusal::plain(12));
-    }
+    judge_named(named, &book, &lineup_area[..record.length as usize])?;
     if runs.len() == MOST_KNOWN {
         return Err(Refusal::plain(13));
     }
@@ -126,6 +122,20 @@ fn judge_report(
         return Err(Refusal::plain(11));
     }
     Ok((book, runs))
+}
+
+/// What a named run is refused for: 16, 17, then 12.
+fn judge_named(named: &[u8], book: &Book, lineup: &[u8]) -> Result<(), Refusal> {
+    if !(SHORTEST_RUN..=LONGEST_RUN).contains(&named.len()) {
+        return Err(Refusal::plain(16));
+    }
+    if named.iter().any(|&grade| !book.changeovers.has_grade(grade)) {
+        return Err(Refusal::plain(17));
+    }
+    if !check::stands_in(named, lineup) {
+        return Err(Refusal::plain(12));
+    }
+    Ok(())
 }
 
 fn judge_areas(runs_area: &[u8], lineup_area: &[u8]) -> Result<(), Refusal> {

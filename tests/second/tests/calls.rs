@@ -42,7 +42,7 @@ fn each_fault_has_its_refusal() {
     }
 }
 
-/// 8 comes before 7, 7 before 15 and 9, and 9 before 10, 11 and 12.
+/// 8 comes before 7, 7 before 15 and 9, 9 before 10 and 11, and 11 before 16, 17 and 12.
 #[test]
 fn refusals_come_in_their_order() {
     let good = begun_on_book_a();
@@ -50,9 +50,12 @@ fn refusals_come_in_their_order() {
         let printed = case.make(call);
         printed.lines().next().unwrap_or("").to_string()
     };
+    let named = |list: &[u8]| first(&Case { list: list.to_vec(), ..good.clone() }, Call::Failed);
+    assert_eq!(named(&[1, 1]), "REFUSED 12");
+    assert_eq!(named(&[1, 9]), "REFUSED 17");
     let mut case = Case { list: vec![9], ..good.clone() };
     assert_eq!(first(&case, Call::Check), "REFUSED 10");
-    assert_eq!(first(&case, Call::Failed), "REFUSED 12");
+    assert_eq!(first(&case, Call::Failed), "REFUSED 16");
     case.record.stage = 1;
     case.record.passed = 1;
     assert_eq!(first(&case, Call::Failed), "REFUSED 11");

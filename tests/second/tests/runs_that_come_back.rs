@@ -14,7 +14,8 @@ use second::kinds::Kind;
 use second::list_inputs;
 use second::lists::List;
 use second::plan::{self, Plan};
-use second::programs::{Report, Trials};
+use second::programs::{self, Report};
+use second::refusal::Refusal;
 use second::samples;
 use second::sources::Source;
 use second::tables::TableCase;
@@ -278,31 +279,18 @@ fn the_check_finds_runs_that_come_back() {
 
 /// The named runs of a replay that are accepted, and those that 12 refuses.
 fn named_runs(input: &[u8]) -> Option<(Vec<Run>, Vec<Run>)> {
-    let head = input.get(..12)?;
-    let length = u32::from_be_bytes([head[8], head[9], head[10], head[11]]);
-    let book = input[12..].get(..length as usize)?;
-    let batch = batch([head[0], head[1], head[4], head[5], head[6], head[7]]);
-    let mut trials = Trials::begin(book, batch, head[2], head[3]).ok()?;
+    let (mut trials, _, reports) = programs::read_replay(input).ok()?;
     let (mut accepted, mut refused) = (Vec::new(), Vec::new());
-    let mut reports = &input[12 + book.len()..];
-    loop {
-        match reports {
-            [0, rest @ ..] => {
-                let _ = trials.try_report(Report::Passed);
-                reports = rest;
+    for report in reports {
+        match (report, trials.try_report(report)) {
+            (Report::Failed(named), Ok(())) => accepted.push(named.to_vec()),
+            (Report::Failed(named), Err(Refusal { number: 12, .. })) => {
+                refused.push(named.to_vec())
             }
-            [1, length, rest @ ..] if rest.len() >= usize::from(*length) => {
-                let (named, rest) = rest.split_at(usize::from(*length));
-                match trials.try_report(Report::Failed(named)) {
-                    Ok(()) => accepted.push(named.to_vec()),
-                    Err(refusal) if refusal.number == 12 => refused.push(named.to_vec()),
-                    Err(_) => {}
-                }
-                reports = rest;
-            }
-            _ => return Some((accepted, refused)),
+            _ => {}
         }
     }
+    Some((accepted, refused))
 }
 
 /// Labs name them, and they are accepted; those with neighbours equal are refused.

@@ -7,6 +7,7 @@ use second::draft::Draft;
 use second::exhaustive;
 use second::generate;
 use second::inputs::{self, replay_input};
+use second::named_runs;
 use second::plan::LINEUP_AREA;
 use second::programs::{self, Report, Trials};
 use second::random::Random;
@@ -265,26 +266,29 @@ fn a_standing_line_up_may_have_1600_grades() {
 }
 
 #[test]
-fn named_runs_that_12_is_for() {
+fn named_runs_that_16_17_and_12_are_for() {
     let book = samples::book_a().bytes();
     let state = begun(&book, batch(3), 0, 3);
     // The standing line-up is 0 1 2 1 2 3.
-    for named in [
-        &[][..],
-        &[0],
-        &[1, 1],
-        &[0, 1, 1, 2],
-        &[2, 1, 2, 1],
-        &[0, 2],
-        &[3, 2],
-        &[2, 4],
-        &[255, 0],
-        &[0, 1, 2, 3],
-        &[0, 2, 3],
-        &[0, 1, 2, 1, 2, 3, 0, 1, 2],
+    for (named, number) in [
+        (&[][..], 16),
+        (&[0], 16),
+        (&[4], 16),
+        (&[0, 1, 2, 1, 2, 3, 0, 1, 2], 16),
+        (&[0, 1, 2, 1, 2, 3, 0, 1, 4], 16),
+        (&[2, 4], 17),
+        (&[255, 0], 17),
+        (&[0, 1, 2, 1, 2, 3, 0, 4], 17),
+        (&[1, 1], 12),
+        (&[0, 1, 1, 2], 12),
+        (&[2, 1, 2, 1], 12),
+        (&[0, 2], 12),
+        (&[3, 2], 12),
+        (&[0, 1, 2, 3], 12),
+        (&[0, 2, 3], 12),
     ] {
         let mut after = state.clone();
-        assert_eq!(after.failed(&book, named), plain(12), "{named:?}");
+        assert_eq!(after.failed(&book, named), plain(number), "{named:?}");
         assert_eq!(after, state);
     }
     for named in [&[0, 1][..], &[2, 3], &[1, 2, 3], &[2, 1], &[0, 1, 2]] {
@@ -316,26 +320,21 @@ fn a_named_run_has_at_most_8_grades() {
     let book = generate::line(10, true, 1).bytes();
     let mut state = begun(&book, batch(0), 0, 9);
     let nine: Vec<u8> = (0..9).collect();
-    assert_eq!(state.failed(&book, &nine), plain(12));
+    assert_eq!(state.failed(&book, &nine), plain(16));
     assert_eq!(state.failed(&book, &nine[..8]).map(|record| record.stage), Ok(NONE));
-}
-
-/// 256 runs of which none stands in the plan from 62 to 63.
-fn book_with_256_runs() -> Vec<u8> {
-    let runs: Vec<Vec<u8>> = (0..256).map(|i| vec![(i / 16) as u8, 16 + (i % 16) as u8]).collect();
-    let draft = Draft::new(64).changeover(62, 61, 5).changeover(61, 63, 5).changeover(62, 63, 11);
-    generate::sheets_of_16(draft, &runs).bytes()
 }
 
 #[test]
 fn the_257th_known_run_is_13() {
-    let book = book_with_256_runs();
+    let book = named_runs::book_with_256_known().bytes();
     let state = begun(&book, batch(0), 62, 63);
     assert_eq!((state.record.known, state.record.litres), (256, 10));
     let mut after = state.clone();
     assert_eq!(after.failed(&book, &[62, 61]), plain(13));
     assert_eq!(after.failed(&book, &[62, 63]), plain(12));
     assert_eq!(after.failed(&book, &[0, 16]), plain(12));
+    assert_eq!(after.failed(&book, &[62]), plain(16));
+    assert_eq!(after.failed(&book, &[62, 64]), plain(17));
     assert_eq!(after, state);
     let record = state.passed(&book).unwrap();
     let over = State { record, ..state };
@@ -344,15 +343,7 @@ fn the_257th_known_run_is_13() {
 
 #[test]
 fn the_256th_known_run_is_accepted() {
-    let mut draft =
-        Draft::new(64).changeover(62, 61, 5).changeover(61, 63, 5).changeover(62, 63, 11);
-    for i in 0..255 {
-        if i % 16 == 0 {
-            draft = draft.sheet(0);
-        }
-        draft = draft.run(&[i / 16, 16 + i % 16]);
-    }
-    let book = draft.bytes();
+    let book = named_runs::book_with_255_known().bytes();
     let mut state = begun(&book, batch(0), 62, 63);
     state.record = state.failed(&book, &[62, 61]).unwrap();
     assert_eq!((state.record.known, state.record.failed, state.record.litres), (256, 1, 11));
@@ -380,7 +371,7 @@ fn replay_prints_each_step() {
     assert_eq!(
         replayed(&[&[1, 0], &[1, 2, 0, 2], first_run, &[1, 2, 2, 3], &[0], &[0], first_run]),
         format!(
-            "{begun}REFUSED 12\nREFUSED 12\n{second}REFUSED 12\n{passed}REFUSED 11\nREFUSED 11\n"
+            "{begun}REFUSED 16\nREFUSED 12\n{second}REFUSED 12\n{passed}REFUSED 11\nREFUSED 11\n"
         )
     );
     assert_eq!(
@@ -494,7 +485,8 @@ fn run_true_lab(random: &mut Random, trials: &mut Trials, set: &[Vec<u8>]) -> u6
     while trials.record.stage == STANDS {
         let before = (trials.record, trials.runs_area, trials.lineup_area);
         if random.chance(30) {
-            assert_eq!(trials.try_report(Report::Failed(&[0])), plain(12));
+            let (named, number) = random.pick(&[(&[0][..], 16), (&[0, 255], 17), (&[0, 0], 12)]);
+            assert_eq!(trials.try_report(Report::Failed(named)), plain(number));
             assert_eq!((trials.record, trials.runs_area, trials.lineup_area), before);
         }
         let standing = |run: &&Vec<u8>| check::stands_in(run, trials.lineup());
