@@ -1,11 +1,21 @@
 -- The laws of what specs/RefusalLaws.antt defines.
-use Rattle.std.specs.Prelude.{◌≡◌, refl, Bool, true, false, cond, List, [], ◌∷◌, ◌++◌}
-use Rattle.std.proofs.Common.{sym}
+use Rattle.std.specs.Prelude
+use Rattle.std.specs.Prelude.{ℕ, ◌≡◌, refl, Bool, true, false, cond, not, T, List, [], ◌∷◌, ◌++◌, Some, None}
+use Rattle.std.proofs.Common.{sym, is_some}
+use mathlib.Core.List.{Memᴰ}
 use Rattle.std.proofs.Math.Option.{none, some, none-ne-some}
-use Rattle.lists.specs.Test.{and-true}
+use Rattle.lists.specs.Test.{and-true, all→each}
 use Rattle.book.specs.declared.Refusal.{Refusal}
-use Rattle.book.specs.Refusal.{Test, first_failure, all_hold}
+use Rattle.book.specs.Refusal.{place_of, refusals_in_order, Test, first_failure, all_hold}
 use Rattle.book.specs.RefusalLaws.{Hold, Fails, here, later}
+
+-- Only a book's refusal carries a place.
+pub no-place : (x : Refusal) → Memᴰ x refusals_in_order → place_of x ≡ None
+no-place x m = go (place_of x) (all→each (λ y. not (is_some (place_of y))) {l = refusals_in_order} tt m)
+  where
+    go : (o : Prelude.Option ℕ) → T (not (is_some o)) → o ≡ None
+    go None t = refl
+    go (Some at) t = absurd t
 
 -- The first that fails decides ...
 pub first-fails : {ts : List Test} {r : Refusal} → Fails ts r → first_failure ts ≡ some r

@@ -9,14 +9,17 @@ use Rattle.states.specs.Chosen.{chosen}
 use Rattle.book.specs.Book.{WellFormed, graph}
 use Rattle.book.proofs.BookLaws.{reading-is-book, IsPath→is_path}
 use Rattle.rules.specs.Binding.{known}
+use Rattle.rules.proofs.ValidLaws.{valid→Valid}
 use Rattle.trial_record.specs.declared.Record.{Record}
-use Rattle.trial_rules.specs.Trials.{Report, ForbiddenSet, step, Begin, begun, begin_refusal, state_after, accepted_of}
+use Rattle.trial_rules.specs.Trials.{Report, path_area, Valid, ForbiddenSet, step, Begin, begun, begin_refusal, state_after, accepted_of}
 use Rattle.trial_rules.specs.Lacking.{lacking}
+use Rattle.trial_rules.proofs.Accepted.{begin-accepted}
 use Rattle.trial_rules.proofs.Invariant.{Invariant, invariant_begin}
 use Rattle.trial_rules.proofs.Claim.{claim, refused_as_if_not_made}
 use Rattle.trial_rules.specs.Oracle.{OracleSet}
 use Rattle.trial_rules.proofs.Oracle.{oracle}
 use Rattle.trials.specs.Operations.{Leaves, answering}
+use Rattle.trials.specs.OperationLaws.{area-valid, state-is}
 use Rattle.trials.specs.Replanning.{chosen-planner}
 use Rattle.series.specs.Reports.{reports_of}
 use Rattle.series.specs.Making.{replaying}
@@ -83,6 +86,13 @@ module _ (β : AcceptedBegin) where
         nothing = subst (λ F. (σ.rec.stage ≡ 2) ↔ None (graph b) F start end) c.forbidden c.nothing;
         nothing-stands = v.no_walk;
         passed-stage = c.passed-stage;
+        in-order =
+            record {
+              paths-fit = omega (arith, c.path-length, (begin-accepted t).paths-fit);
+              walk-fits = omega (arith, c.area-length, (begin-accepted t).area-fits);
+              runs = valid→Valid b.count (path_area σ) σ.rec.known (area-valid b σ v.set v.known);
+              state = subst (Valid (graph b)) (sym (state-is b σ v.set v.known)) v;
+            };
         refusals = λ ρ. only_five s b read σ v ρ (c.refusals ρ);
       }
 

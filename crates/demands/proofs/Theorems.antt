@@ -5,6 +5,7 @@ use Rattle.dates.proofs.CalendarWindows.{whole_year, one_of_two}
 use Rattle.distances.proofs.Made.{made-first, made-enough, settled-best, made-few}
 use Rattle.measuring.proofs.Few.{few-passes}
 use Rattle.measuring.proofs.Unique.{counted-unique}
+use Rattle.book.proofs.RefusalLaws.{no-place}
 use Rattle.book_bytes.proofs.BytesLaws.{bytes_below}
 use Rattle.book_bytes.proofs.Longest.{full_book, full_keeps, full_length}
 use Rattle.book_bytes.proofs.LongBook.{longest-book}
@@ -33,6 +34,7 @@ demand_1 =
       answered = answers;
       else_refused = refused_otherwise;
       refusals = refusals;
+      no_place = no-place;
     }
 
 pub demand_2 : Demand2

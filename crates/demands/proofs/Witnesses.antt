@@ -3,10 +3,9 @@ use Rattle.trials.specs.declared.Rejected.{Rejected}
 use Rattle.trials.specs.Operations.{rejected}
 use Rattle.std.specs.Prelude.{ℕ, ◌≤◌, refl, T, length, Result, Ok, Err}
 use Rattle.std.proofs.Math.Path.{◌≡◌, ap, ap₂, subst}
-use Rattle.std.proofs.Common.{sym, ◌∙◌, inl, inr, ⊎_elim, arith, length-append}
+use Rattle.std.proofs.Common.{sym, ◌∙◌, inl, inr, ⊎_elim, arith}
 use mathlib.Core.List.{List, [], ◌∷◌, Memᴰ}
 use Rattle.std.proofs.Math.Option.{none, some}
-use Rattle.std.proofs.lemmas.List.{length-replicate}
 use Rattle.limits.specs.Limits.{area_size, longest}
 use Rattle.dates.specs.declared.Date.{Date}
 use Rattle.dates.specs.Dates.{month_day}
@@ -18,17 +17,15 @@ use Rattle.walks.specs.Feasible.{is_feasible}
 use Rattle.walks.specs.Stutter.{Stutters}
 use Rattle.book.specs.declared.Refusal.{Refusal}
 use Rattle.book.specs.declared.Refusal.TheVariants.{Ended, NotStanding}
-use Rattle.book.specs.Book.{Book, RuleSet, graph, is_path, are_vertices}
+use Rattle.book.specs.Book.{RuleSet, is_path, are_vertices}
 use Rattle.book.proofs.BookLaws.{is_path→IsPath}
 use Rattle.rules.specs.Binding.{covers, applied, once, known}
-use Rattle.rules.proofs.ValidLaws.{valid→Valid}
 use Rattle.trial_record.specs.declared.Record.{Record}
 use Rattle.trial_rules.specs.Trials.{Report, passed, failed, State, path_area, Valid, is_valid, is_record, is_forbidden_set, step}
 use Rattle.trial_rules.proofs.Tests.{is_forbidden_set→, is_valid→Valid}
 use Rattle.trial_rules.proofs.Accepted.{only-oracle}
 use Rattle.trial_rules.specs.Lacking.{lacking, together}
 use Rattle.trials.specs.Operations.{Leaves, answering, reporting, record_in}
-use Rattle.trials.specs.OperationLaws.{area-valid, state-is}
 use Rattle.series.specs.Whole.{leaves_of, report_on, reports_on}
 use Rattle.examples.specs.Batches.{marks}
 use Rattle.examples.specs.Books.{bytes_a, book_a, book-A, bytes_stutter, book_stutter, book_stutter_lem}
@@ -37,8 +34,8 @@ use Rattle.examples.specs.Seasons.{bytes-summer, book_with, summer, sums as seas
 use Rattle.examples.specs.Trials.{not_there, too_late}
 use Rattle.demands.specs.Calls.{AcceptedBegin, opening, answer_on, answers_on, accepted_by, accepted_on, standing_in, TrueReport, TrueLab, LabSet}
 use Rattle.demands.proofs.CallLaws.{many_of_either, refused-kept, report-is, answer-is}
-use Rattle.demands.specs.Demands.{LabOutcome, InOrder, ButStutteringRuns, SamePlans, added, no_more, SameBatches, RefusedUnder}
-use Rattle.demands.proofs.LabLaws.{labs}
+use Rattle.demands.specs.Demands.{LabOutcome, ButStutteringRuns, SamePlans, added, no_more, SameBatches, RefusedUnder}
+use Rattle.demands.proofs.LabLaws.{ruled, labs}
 use Rattle.demands.proofs.Theorems.{order-2, order-4, order-5}
 
 -- The runs that are named.
@@ -254,21 +251,10 @@ in-summer flags date date' valid valid' inside =
     (added (λ w e. absurd (cc)) (added (λ w e. subst (λ v. Inside v (month_day date)) (cc) inside) no_more))
 
 -- ---- 02, order 5
--- A state of the trials in order, as record and areas.
-in_order : (b : Book) (σ : State) → Valid (graph b) σ → longest ≤ length σ.area → InOrder b σ.rec (path_area σ) σ.area
-in_order b σ v long =
-    record {
-      paths-fit = simp (length-append, length-replicate) (omega arith);
-      walk-fits = long;
-      runs = valid→Valid b.count (path_area σ) σ.rec.known (area-valid b σ v.set v.known);
-      state = subst (Valid (graph b)) (sym (state-is b σ v.set v.known)) v;
-    }
-
 -- At the start of marks 3 the lab names 3 4 and is told of the 4, which is no grade.
-pub told-34 : (paths walk : List ℕ) → area_size ≤ length paths → longest ≤ length walk
-    → let σ = begun-3 paths walk in RefusedUnder 17 bytes_a σ.rec (path_area σ) σ.area (3 ∷ 4 ∷ [])
-told-34 paths walk fits long =
-    let σ = begun-3 paths walk in
-    let o = in_order book_a σ (valid-3 paths walk fits long) (long_after paths walk fits long (0 ∷ 1 ∷ 2 ∷ 1 ∷ 2 ∷ 3 ∷ []) refl) in
-    (order-5.told bytes_a book_a book-A σ.rec (path_area σ) σ.area (o, refl) (3 ∷ 4 ∷ [])).grade.1
+pub told-34 : OnBookA (λ β. RefusedUnder 17 β.bytes (opening β).answer (opening β).paths (opening β).walk (3 ∷ 4 ∷ []))
+unfolding reports_on
+told-34 date valid paths walk fits long =
+    let β = begin-A date valid paths walk fits long in
+    (order-5.told bytes_a book_a book-A (opening β).answer (opening β).paths (opening β).walk ((ruled β []).in-order, refl) (3 ∷ 4 ∷ [])).grade.1
     (omega arith, omega arith, 4, mathlib.Core.List.Memᴰ.tail (mathlib.Core.List.Memᴰ.head refl), omega arith)

@@ -34,7 +34,7 @@ use Rattle.routes.specs.Plan.{Prepared}
 use Rattle.measuring.specs.Counted.{Counted}
 use Rattle.pass_counts.specs.Most.{most_from}
 use Rattle.book.specs.declared.Refusal.{Refusal}
-use Rattle.book.specs.Refusal.{Test, number_of}
+use Rattle.book.specs.Refusal.{Test, number_of, place_of, refusals_in_order}
 use Rattle.book.specs.Book.{Book, counts, graph, RuleSet, All, all_paths}
 use Rattle.book.specs.Reading.{Reading, accepted, refused, reading, read_as, refusal_of}
 use Rattle.book_bytes.specs.Bytes.{AreBytes, bytes_of, ProperNeeds, Keeps, longest_book}
@@ -168,6 +168,8 @@ pub record Demand1 : Type 0 where
   -- 'Everything else gets its numbered refusal, under that refusal's stated condition and no other, and a refusal writes to no lent memory.'
   pub else_refused : (s : List ℕ) → AreBytes s → ((x : Refusal) × (reading s ≡ refused x)) ↔ ((b : Book) → Keeps b → s ≡ bytes_of b → ⊥)
   pub refusals : (s : List ℕ) (x : Refusal) → Refusals s x
+  -- 01: 'Refusals 1 to 6 carry the byte at which the field starts', 02: and 14. The others carry none.
+  pub no_place : (x : Refusal) → Memᴰ x refusals_in_order → place_of x ≡ Prelude.None
 
 -- ==== Demand 2
 -- A line-up from start to end that contains no forbidden run of any sheet that binds the batch.
@@ -508,7 +510,7 @@ pub record Told (s : List ℕ) (b : Book) (q : Record) (paths walk r : List ℕ)
   pub elsewhere : RefusedUnder 12 s q paths walk r ↔ (IsRun b.count r × (Occurs r (take q.length walk) → ⊥))
   -- 13 comes after them, and is for what it was for.
   pub full : RefusedUnder 13 s q paths walk r ↔ (IsRun b.count r × Occurs r (take q.length walk) × (256 ≤ q.known))
-  -- What 12 was for the three are for now ...
+  -- 12 was for every run that is not by the rules or does not stand; now one of the three is ...
   pub together : (RefusedUnder 16 s q paths walk r ⊎ RefusedUnder 17 s q paths walk r ⊎ RefusedUnder 12 s q paths walk r)
       ↔ (IsRun b.count r × Occurs r (take q.length walk) → ⊥)
   -- ... there is no other number, and what was accepted is accepted.
@@ -578,6 +580,8 @@ module _ (β : AcceptedBegin) where
     pub nothing : (l.answer.stage ≡ 2) ↔ None g (bound ++ named done) start end
     pub nothing-stands : l.answer.stage ≡ 2 → (l.answer.length ≡ 0) × (l.answer.litres ≡ 0)
     pub passed-stage : (l.answer.stage ≡ 1) ↔ (passes done ≡ 1)
+    -- Record and areas are in order, so that what a lab is told of a run that it names is `Order5`.
+    pub in-order : InOrder b l.answer l.paths l.walk
     -- One more report is refused only for what its lab does: 11, 16, 17, 12, 13.
     pub refusals : (ρ : Report) (x : Refusal) (r : Record) → answer_on s l ρ ≡ Err (rejected x r) → Memᴰ (number_of x) (11 ∷ 16 ∷ 17 ∷ 12 ∷ 13 ∷ [])
 

@@ -128,7 +128,7 @@ abbrev pub is_standing : State → Report → Bool
 is_standing σ passed = true
 is_standing σ (failed r) = occurs r (standing σ)
 
--- In one, as 12 was before order 5: the named path is one that the book's rules take, and stands in the standing walk (proofs/Named.antt: `together`).
+-- In one, as 12 was before order 5 (proofs/Named.antt: `as-before`), and as an accepted report is spoken of: the named path is one that the book's rules take, and stands in the standing walk.
 abbrev pub is_named : Graph → State → Report → Bool
 is_named g σ passed = true
 is_named g σ (failed r) = is_path g.count r && occurs r (standing σ)

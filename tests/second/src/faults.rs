@@ -347,7 +347,10 @@ pub fn faults() -> Vec<Fault> {
         fault("nine grades named, all different", Part::Named, Some(16), |_, case| {
             case.list = (0..9).collect()
         }),
-        fault("300 grades named", Part::Named, Some(16), |_, case| case.list = vec![0; 300]),
+        // Modulo 256 these are two, which stand.
+        fault("258 grades named", Part::Named, Some(16), |_, case| {
+            case.list = standing(case).iter().copied().cycle().take(258).collect()
+        }),
         fault("equal neighbours named", Part::Named, Some(12), |_, case| {
             case.list = vec![case.lineup[0], case.lineup[0]]
         }),

@@ -232,9 +232,8 @@ pub fn doubled(random: &mut Random, mut run: Run) -> Run {
 /// One of the grades becomes one that is not below the count.
 pub fn spoil_grade(random: &mut Random, run: &mut [u8], grades: u8) {
     let place = random.below(run.len().max(1));
-    let bad = random.pick(&[grades, 64, 255]);
     if let Some(grade) = run.get_mut(place) {
-        *grade = bad;
+        *grade = random.pick(&[grades, grades, 64, *grade | 128, 255]);
     }
 }
 

@@ -4,6 +4,7 @@
 use crate::any_inputs;
 use crate::book::{Run, LONGEST_RUN, SHORTEST_RUN};
 use crate::calls::Case;
+use crate::check;
 use crate::draft::Draft;
 use crate::faults::{self, faults, Fault};
 use crate::generate;
@@ -31,6 +32,18 @@ impl Scene {
 
     fn named(mut self, answer: Answer, runs: &[&[u8]]) -> Scene {
         self.named.extend(runs.iter().map(|run| (run.to_vec(), answer)));
+        self
+    }
+
+    /// Of its runs only these.
+    fn with_only(mut self, runs: &[&[u8]]) -> Scene {
+        self.named.retain(|(run, _)| runs.contains(&run.as_slice()));
+        self
+    }
+
+    /// Of its runs only the first with each answer.
+    fn with_first_of_each(mut self) -> Scene {
+        self.named.dedup_by_key(|(_, answer)| *answer);
         self
     }
 
@@ -112,6 +125,9 @@ fn book_a() -> Scene {
                 &[0, 64],
                 &[255, 1],
                 &[0, 255],
+                // Modulo 128 they stand.
+                &[128, 1],
+                &[129, 2],
                 &[0, 4, 2],
                 &[0, 1, 255, 1],
                 &[0, 1, 1, 4],
@@ -124,7 +140,12 @@ fn book_a() -> Scene {
             Some(17),
             &[
                 &[4, 1, 2, 1, 2, 3, 0, 1],
+                &[0, 4, 2, 1, 2, 3, 0, 1],
+                &[0, 1, 4, 1, 2, 3, 0, 1],
                 &[0, 1, 2, 4, 2, 3, 0, 1],
+                &[0, 1, 2, 1, 4, 3, 0, 1],
+                &[0, 1, 2, 1, 2, 4, 0, 1],
+                &[0, 1, 2, 1, 2, 3, 4, 1],
                 &[0, 1, 2, 1, 2, 3, 0, 4],
                 &[0, 1, 2, 1, 2, 3, 0, 255],
                 &[4; 8],
@@ -149,6 +170,17 @@ fn book_a() -> Scene {
                 &[3; 8],
             ],
         )
+}
+
+/// Of those the empty run, nine grades and two with a bad one, a known run, neighbours
+/// equal, and a run that stands.
+const CORNERS_OF_BOOK_A: [&[u8]; 6] =
+    [&[], &[4, 1, 2, 1, 2, 3, 0, 1, 2], &[4, 1], &[0, 1, 2, 3], &[1, 1], &[1, 2, 3]];
+
+/// More grades than a report in a series can name: modulo 256 they are two, which stand.
+fn named_258() -> Scene {
+    let run = |others: u8| [&[1, 2][..], &[others; 256]].concat();
+    book_a().with_only(&[]).named(Some(16), &[&run(3), &run(4)])
 }
 
 /// 0 to 9 one by one, and a dear way past them.
@@ -238,9 +270,8 @@ fn full() -> Scene {
         .named(Some(12), &[&[62, 63], &[61, 61], &[63, 61, 62], &[0, 16], &[15, 31]])
 }
 
-/// The scenes that have their runs in every stage, and with each fault that comes before.
 fn scenes() -> Vec<Scene> {
-    vec![book_a(), line_of_10(), one_grade()]
+    vec![book_a(), line_of_10(), one_grade(), line_of_64(), full()]
 }
 
 /// Faults that come before all that a named run is refused for: 8, 9 and 11.
@@ -254,28 +285,37 @@ const BEFORE: [&str; 7] = [
     "stage 2 as it should be",
 ];
 
-/// Single failed reports, each with the answer: as the scenes have them, with each of the
-/// faults before, and on bad books.
+/// Single failed reports, each with the answer: as the scenes have them, and some with each
+/// of the faults before, and on bad books.
 pub fn single_reports() -> Vec<(Case, Answer)> {
-    let plain: Vec<(Case, Answer)> = scenes().iter().flat_map(Scene::reports).collect();
+    let mut reports: Vec<(Case, Answer)> = scenes().iter().flat_map(Scene::reports).collect();
+    reports.extend(named_258().reports());
     let before = faults_before();
-    let mut reports = plain.clone();
-    for (case, _) in &plain {
-        reports.extend(before.iter().map(|fault| spoilt(fault, case)));
+    for (case, _) in few().iter().flat_map(Scene::reports) {
+        reports.extend(before.iter().map(|fault| spoilt(fault, &case)));
     }
-    reports.extend([line_of_64(), full()].iter().flat_map(Scene::reports));
     reports.extend(on_bad_books());
     reports
 }
 
-/// Those of book A, cut short and with a window edge that no year has.
+/// Scenes with a run for each answer, or with the corner cases.
+fn few() -> Vec<Scene> {
+    vec![
+        book_a().with_only(&CORNERS_OF_BOOK_A),
+        line_of_10().with_first_of_each(),
+        one_grade().with_first_of_each(),
+    ]
+}
+
+/// A run of book A for each answer, on the book cut short and with a window edge that no
+/// year has.
 fn on_bad_books() -> Vec<(Case, Answer)> {
     let mut cut = samples::book_a().bytes();
     cut.pop();
     let mut reports = Vec::new();
     for (book, number) in [(cut, 1), (samples::book_a_in([1, 5, 31, 9]).bytes(), 14)] {
         let spoilt = |(case, _)| (Case { book: book.clone(), ..case }, Some(number));
-        reports.extend(book_a().reports().into_iter().map(spoilt));
+        reports.extend(book_a().with_first_of_each().reports().into_iter().map(spoilt));
     }
     reports
 }
@@ -297,9 +337,7 @@ fn spoilt(fault: &Fault, case: &Case) -> (Case, Answer) {
 /// Series of reports, as `replay` takes them: each run of the scenes by itself, then
 /// series that go on.
 pub fn series() -> Vec<Vec<u8>> {
-    let mut scenes = scenes();
-    scenes.extend([line_of_64(), full()]);
-    let mut series: Vec<Vec<u8>> = scenes.iter().flat_map(Scene::series_of_each).collect();
+    let mut series: Vec<Vec<u8>> = scenes().iter().flat_map(Scene::series_of_each).collect();
     series.extend(series_between());
     series
 }
@@ -351,7 +389,16 @@ fn any_length(random: &mut Random, standing: usize) -> usize {
     random.pick(&[0, less, less, least, least, 3, 5, most, most, more, more, 20])
 }
 
-/// One of these becomes the named run of a case.
+/// One of these becomes the named run of a case; in place of some that do not stand, what
+/// lies behind the line-up.
 pub fn name_any(random: &mut Random, case: &mut Case) {
-    case.list = any(random, faults::standing(case), faults::grades(case));
+    let standing = faults::standing(case);
+    let mut named = any(random, standing, faults::grades(case));
+    if !check::stands_in(&named, standing) && random.chance(15) {
+        // The last grade of the line-up may be among them.
+        let place = (standing.len() + random.below(LONGEST_RUN)).saturating_sub(1);
+        let length = random.between(SHORTEST_RUN, LONGEST_RUN);
+        named = case.lineup.iter().copied().skip(place).take(length).collect();
+    }
+    case.list = named;
 }

@@ -129,7 +129,7 @@ fn judge_named(named: &[u8], book: &Book, lineup: &[u8]) -> Result<(), Refusal> 
     if !(SHORTEST_RUN..=LONGEST_RUN).contains(&named.len()) {
         return Err(Refusal::plain(16));
     }
-    if named.iter().any(|&grade| !book.changeovers.has_grade(grade)) {
+    if !book::run_has_good_grades(named, book.grades()) {
         return Err(Refusal::plain(17));
     }
     if !check::stands_in(named, lineup) {

@@ -2,7 +2,8 @@
 //! failed report; and how many inputs, random and stored, show each mistake with it.
 
 use second::any_inputs::case_of;
-use second::book;
+use second::binding;
+use second::book::{self, Run};
 use second::calls::{Call, Case};
 use second::check;
 use second::inputs;
@@ -33,18 +34,65 @@ fn single_reports_have_their_answers() {
     }
     let least = [
         (0, 13),
-        (1, 50),
-        (14, 50),
-        (8, 170),
-        (9, 250),
-        (11, 170),
+        (1, 4),
+        (14, 4),
+        (8, 24),
+        (9, 36),
+        (11, 24),
         (12, 28),
         (13, 3),
-        (16, 35),
-        (17, 35),
+        (16, 36),
+        (17, 42),
     ];
     for (number, least) in least {
         assert!(counts[number] >= least, "{number}: {counts:?}");
+    }
+}
+
+/// What a failed report may name, and whether it does.
+type Corner = (&'static str, fn(&Case) -> bool);
+
+const CORNERS: [Corner; 6] = [
+    ("nothing", |case| case.list.is_empty()),
+    ("nine grades with a bad one", |case| case.list.len() == 9 && !is_proper(case)),
+    ("two grades with a bad one", |case| case.list.len() == 2 && !is_proper(case)),
+    ("a known run", |case| known(case).contains(&case.list)),
+    ("neighbours equal", |case| is_proper(case) && !changes(&case.list)),
+    // In stage 2 the last line-up is still in the area.
+    ("a run that stands", |case| changes(&case.list) && check::stands_in(&case.list, &case.lineup)),
+];
+
+fn grades(case: &Case) -> usize {
+    book::read(&case.book).map_or(0, |book| book.grades())
+}
+
+fn is_proper(case: &Case) -> bool {
+    case.list.iter().all(|&grade| usize::from(grade) < grades(case))
+}
+
+fn changes(run: &[u8]) -> bool {
+    run.windows(2).all(|pair| pair[0] != pair[1])
+}
+
+fn known(case: &Case) -> Vec<Run> {
+    binding::read_area(&case.runs, case.record.known as usize, grades(case)).unwrap_or_default()
+}
+
+/// In single reports and in series each of them is 11 outside stage 0.
+#[test]
+fn corner_cases_are_11_outside_stage_0() {
+    let single = named_runs::single_reports().into_iter().map(|(case, _)| case).collect();
+    let in_series = |input: &Vec<u8>| failed_reports(Kind::Replay, input);
+    let series = named_runs::series().iter().flat_map(in_series).collect();
+    let cases: [Vec<Case>; 2] = [single, series];
+    for (cases, stage) in
+        cases.iter().flat_map(|cases| [(cases, trials::PASSED), (cases, trials::NONE)])
+    {
+        let is_over = |case: &&Case| case.record.stage == stage && answer(case) == Some(11);
+        let over: Vec<&Case> = cases.iter().filter(is_over).collect();
+        for (name, has_it) in CORNERS {
+            assert!(over.iter().any(|case| has_it(case)), "{name} in stage {stage}");
+        }
     }
 }
 
@@ -117,11 +165,14 @@ fn series_hold_each_refusal_between_accepted_reports() {
 }
 
 /// What a failed report is judged by once its book is read.
+#[derive(Clone)]
 struct Question {
     /// What any report is refused for then: 8, 9 or 11.
     before: Option<u8>,
     grades: usize,
-    lineup: Vec<u8>,
+    lineup_area: Vec<u8>,
+    /// How many grades stand in it.
+    standing: usize,
     known: u64,
     named: Vec<u8>,
 }
@@ -135,7 +186,8 @@ impl Question {
         Some(Question {
             before: before.map(|refused| refused.number),
             grades,
-            lineup: lineup[..standing].to_vec(),
+            lineup_area: lineup.clone(),
+            standing,
             known: record.known,
             named: list.clone(),
         })
@@ -155,7 +207,7 @@ impl Question {
     }
 
     fn stands(&self) -> bool {
-        check::stands_in(&self.named, &self.lineup)
+        check::stands_in(&self.named, &self.lineup_area[..self.standing])
     }
 }
 
@@ -196,6 +248,21 @@ fn full(question: &Question) -> Option<u8> {
 
 const RIGHT: [Test; 7] = [area, record, over, length, grade, standing, full];
 
+/// Another test for 8.
+const fn by_area(test: Test) -> [Test; 7] {
+    [test, record, over, length, grade, standing, full]
+}
+
+/// Another test for 9.
+const fn by_record(test: Test) -> [Test; 7] {
+    [area, test, over, length, grade, standing, full]
+}
+
+/// Another test for 11.
+const fn by_stage(test: Test) -> [Test; 7] {
+    [area, record, test, length, grade, standing, full]
+}
+
 /// Another test for 16.
 const fn by_length(test: Test) -> [Test; 7] {
     [area, record, over, test, grade, standing, full]
@@ -206,89 +273,122 @@ const fn by_grade(test: Test) -> [Test; 7] {
     [area, record, over, length, test, standing, full]
 }
 
+/// Another test for 12.
+const fn by_standing(test: Test) -> [Test; 7] {
+    [area, record, over, length, grade, test, full]
+}
+
+/// Where the right test refuses and the wrong one does too, the wrong one answers.
+fn sooner(question: &Question, wrong: Test, right: Test) -> Option<u8> {
+    right(question).map(|number| wrong(question).unwrap_or(number))
+}
+
+/// Judges rightly, but another named run.
+fn judged_as(question: &Question, named: Vec<u8>) -> Option<u8> {
+    Question { named, ..question.clone() }.judged(&RIGHT)
+}
+
+fn length_modulo_256(question: &Question) -> Option<u8> {
+    let length = question.named.len() % 256;
+    judged_as(question, question.named[..length].to_vec())
+}
+
+fn grades_modulo_128(question: &Question) -> Option<u8> {
+    judged_as(question, question.named.iter().map(|grade| grade % 128).collect())
+}
+
+/// Does not see the grade at this place.
+fn passing_over<const PLACE: usize>(question: &Question) -> Option<u8> {
+    let (before, from) = question.named.split_at(PLACE.min(question.named.len()));
+    refused_if(question.has_bad(before) || question.has_bad(from.get(1..).unwrap_or(&[])), 17)
+}
+
 /// A judge that errs, with its name, and how many of the random single reports at least,
 /// of the random series, of the stored single reports and of the stored series show it.
 type Mistake = (&'static str, [Test; 7], [usize; 4]);
 
-const MISTAKES: [Mistake; 28] = [
-    ("17 before 16", [area, record, over, grade, length, standing, full], [45, 25, 15, 30]),
-    ("12 before 16", [area, record, over, standing, length, grade, full], [210, 130, 70, 120]),
+/// In a series the planner itself keeps the record and the areas, so that nothing is 8 or
+/// 9, and a report names at most 255 grades.
+const MISTAKES: [Mistake; 33] = [
+    ("17 before 16", by_length(|q| sooner(q, grade, length)), [45, 25, 22, 32]),
+    ("12 before 16", by_length(|q| sooner(q, standing, length)), [150, 100, 36, 73]),
     // A grade not below the count is in no line-up, so that nothing comes to 17.
-    (
-        "12 before 17, or for it",
-        [area, record, over, length, standing, grade, full],
-        [50, 45, 35, 60],
-    ),
-    ("13 before 12", [area, record, over, length, grade, full, standing], [10, 6, 7, 10]),
-    ("13 before 17", [area, record, over, length, full, grade, standing], [20, 8, 10, 15]),
-    ("13 before 16", [area, record, over, full, length, grade, standing], [60, 9, 15, 20]),
-    ("16 before 11", [area, record, length, over, grade, standing, full], [160, 65, 55, 60]),
-    ("17 before 11", [area, record, grade, over, length, standing, full], [60, 50, 95, 70]),
-    ("16 before 9", [area, length, record, over, grade, standing, full], [250, 65, 130, 60]),
-    ("17 before 9", [area, grade, record, over, length, standing, full], [120, 50, 215, 70]),
-    ("16 before 8", [length, area, record, over, grade, standing, full], [270, 65, 185, 60]),
-    ("17 before 8", [grade, area, record, over, length, standing, full], [140, 50, 290, 70]),
-    ("12 for what is 16", by_length(|q| length(q).and(Some(12))), [200, 125, 45, 90]),
-    ("16 for what is 17", by_grade(|q| grade(q).and(Some(16))), [50, 45, 35, 60]),
-    ("nothing is 12", [area, record, over, length, grade, full, full], [75, 90, 35, 180]),
-    ("nothing is 13", [area, record, over, length, grade, standing, standing], [40, 8, 2, 10]),
+    ("12 before 17, or for it", by_grade(|q| sooner(q, standing, grade)), [50, 45, 45, 69]),
+    ("13 before 12", by_standing(|q| sooner(q, full, standing)), [10, 6, 6, 12]),
+    ("13 before 17", by_grade(|q| sooner(q, full, grade)), [10, 6, 4, 6]),
+    ("13 before 16", by_length(|q| sooner(q, full, length)), [35, 8, 6, 9]),
+    ("16 before 11", by_stage(|q| sooner(q, length, over)), [160, 65, 12, 63]),
+    ("17 before 11", by_stage(|q| sooner(q, grade, over)), [13, 25, 8, 72]),
+    ("16 before 9", by_record(|q| sooner(q, length, record)), [90, 0, 13, 0]),
+    ("17 before 9", by_record(|q| sooner(q, grade, record)), [55, 0, 11, 0]),
+    ("16 before 8", by_area(|q| sooner(q, length, area)), [18, 0, 9, 0]),
+    ("17 before 8", by_area(|q| sooner(q, grade, area)), [20, 0, 8, 0]),
+    ("12 for what is 16", by_length(|q| length(q).and(Some(12))), [200, 125, 48, 93]),
+    ("16 for what is 17", by_grade(|q| grade(q).and(Some(16))), [50, 45, 45, 69]),
+    ("nothing is 12", by_standing(|_| None), [75, 90, 40, 183]),
+    ("nothing is 13", [area, record, over, length, grade, standing, standing], [40, 8, 2, 12]),
     (
         "no grade is enough",
         by_length(|q| refused_if(!q.has_length(2..=8) && !q.named.is_empty(), 16)),
-        [45, 40, 7, 25],
+        [45, 40, 6, 25],
     ),
-    ("one grade is enough", by_length(|q| refused_if(!q.has_length(1..=8), 16)), [50, 50, 10, 40]),
+    ("one grade is enough", by_length(|q| refused_if(!q.has_length(1..=8), 16)), [50, 50, 14, 41]),
     (
         "two grades are too few",
         by_length(|q| refused_if(!q.has_length(3..=8), 16)),
-        [150, 410, 45, 225],
+        [150, 410, 50, 230],
     ),
     (
         "eight grades are too many",
         by_length(|q| refused_if(!q.has_length(2..=7), 16)),
-        [55, 45, 20, 55],
+        [55, 45, 27, 63],
     ),
     (
         "nine grades are taken",
         by_length(|q| refused_if(!q.has_length(2..=9), 16)),
-        [65, 40, 20, 35],
+        [65, 40, 22, 38],
     ),
     (
         "nine grades that stand are taken",
         by_length(|q| length(q).filter(|_| !(q.has_length(9..=9) && q.stands()))),
         [4, 4, 2, 6],
     ),
+    ("the length modulo 256", [length_modulo_256; 7], [6, 0, 3, 0]),
     (
         "the count itself is a grade",
         by_grade(|q| refused_if(q.named.iter().any(|&grade| usize::from(grade) > q.grades), 17)),
-        [15, 9, 25, 40],
+        [15, 9, 33, 47],
     ),
     (
         "the highest grade is none",
         by_grade(|q| {
             refused_if(q.named.iter().any(|&grade| usize::from(grade) + 1 >= q.grades), 17)
         }),
-        [120, 315, 50, 340],
+        [120, 315, 52, 347],
     ),
     (
         "every grade below 64 is the book's",
         by_grade(|q| refused_if(q.named.iter().any(|&grade| grade >= 64), 17)),
-        [15, 10, 20, 30],
+        [15, 10, 26, 41],
     ),
-    (
-        "the first grade is passed over",
-        by_grade(|q| refused_if(q.has_bad(&q.named[1..]), 17)),
-        [10, 8, 9, 20],
-    ),
+    ("grades modulo 128", [grades_modulo_128; 7], [10, 6, 1, 8]),
+    ("the first grade is passed over", by_grade(passing_over::<0>), [10, 8, 11, 24]),
     (
         "the last grade is passed over",
         by_grade(|q| refused_if(q.has_bad(&q.named[..q.named.len() - 1]), 17)),
-        [15, 30, 15, 30],
+        [15, 30, 17, 32],
     ),
     (
         "the grades between are passed over",
         by_grade(|q| refused_if(q.has_bad(&[q.named[0], q.named[q.named.len() - 1]]), 17)),
-        [15, 10, 6, 15],
+        [15, 10, 11, 22],
+    ),
+    ("the fifth grade is passed over", by_grade(passing_over::<4>), [3, 3, 1, 4]),
+    ("the seventh grade is passed over", by_grade(passing_over::<6>), [1, 1, 1, 5]),
+    (
+        "a run may stand in all the line-up area",
+        by_standing(|q| refused_if(!check::stands_in(&q.named, &q.lineup_area), 12)),
+        [15, 8, 6, 17],
     ),
 ];
 
