@@ -1,5 +1,5 @@
 -- What the words of demand 3 come to in the theory of trials: the answers, the accepted reports, a true lab, its set, and the walks that are free.
-use Rattle.std.specs.Prelude.{ℕ, ◌≡◌, true, length, Result, Ok, Err}
+use Rattle.std.specs.Prelude.{ℕ, ◌≡◌, length, Result, Ok, Err}
 use Rattle.std.proofs.Math.Path.{refl, ap, ap₂}
 use Rattle.std.proofs.Common.{sym, subst, ◌∙◌, inl, inr, ⊎_elim, arith}
 use mathlib.Core.List.Memᴰ

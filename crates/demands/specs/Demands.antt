@@ -168,7 +168,7 @@ pub record Demand1 : Type 0 where
   -- 'Everything else gets its numbered refusal, under that refusal's stated condition and no other, and a refusal writes to no lent memory.'
   pub else_refused : (s : List ℕ) → AreBytes s → ((x : Refusal) × (reading s ≡ refused x)) ↔ ((b : Book) → Keeps b → s ≡ bytes_of b → ⊥)
   pub refusals : (s : List ℕ) (x : Refusal) → Refusals s x
-  -- 01: 'Refusals 1 to 6 carry the byte at which the field starts', 02: and 14. The others carry none.
+  -- Of the refusals only a book's carry a place (01: 1 to 6; 02: and 14): those of the other list, which are all the others, carry none.
   pub no_place : (x : Refusal) → Memᴰ x refusals_in_order → place_of x ≡ Prelude.None
 
 -- ==== Demand 2
@@ -519,7 +519,7 @@ pub record Told (s : List ℕ) (b : Book) (q : Record) (paths walk r : List ℕ)
 
 pub record Order5 : Type 0 where
   pub told : (s : List ℕ) (b : Book) → reading s ≡ accepted b → (q : Record) (paths walk : List ℕ) → Tried b q paths walk → (r : List ℕ) → Told s b q paths walk r
-  -- A run that is known already is by the rules and stands nowhere: 12.
+  -- A run that is known already is by the rules and does not stand in the line-up: 12.
   pub known : (s : List ℕ) (b : Book) → reading s ≡ accepted b → (q : Record) (paths walk : List ℕ) → Tried b q paths walk → (r : List ℕ) → Memᴰ r (spelled q.known paths)
       → RefusedUnder 12 s q paths walk r
   -- 11 comes before all of them: after the trials it is told of any run.

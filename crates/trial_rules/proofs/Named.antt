@@ -1,4 +1,4 @@
--- The three tests of a named path as-before are what 12 was before order 5; so what a report says is as it should be exactly if it is named, with room.
+-- The three tests of a named path together are what 12 was before order 5; so what a report says is as it should be exactly if it is named, with room.
 use Rattle.std.specs.Prelude.{◌≡◌, refl, Bool, true, false, ◌&&◌, T, length}
 use Rattle.std.proofs.Common.{sym, ◌∙◌}
 use Rattle.lists.specs.Test.{T→true, true→T}

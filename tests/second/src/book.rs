@@ -156,7 +156,7 @@ fn add_run(book: &mut Book, run: &[u8]) -> Result<(), u8> {
     Ok(())
 }
 
-pub(crate) fn run_has_good_grades(run: &[u8], grades: usize) -> bool {
+pub fn run_has_good_grades(run: &[u8], grades: usize) -> bool {
     run.iter().all(|&grade| usize::from(grade) < grades)
 }
 

@@ -41,7 +41,7 @@ impl Scene {
         self
     }
 
-    /// Of its runs only the first with each answer.
+    /// Of its runs only the first with each answer; they stand in groups.
     fn with_first_of_each(mut self) -> Scene {
         self.named.dedup_by_key(|(_, answer)| *answer);
         self

@@ -67,7 +67,7 @@ fn grades(case: &Case) -> usize {
 }
 
 fn is_proper(case: &Case) -> bool {
-    case.list.iter().all(|&grade| usize::from(grade) < grades(case))
+    book::run_has_good_grades(&case.list, grades(case))
 }
 
 fn changes(run: &[u8]) -> bool {
