@@ -1,5 +1,5 @@
 -- What a rule set and a path add: to the lists that a book's tables stand for, and to what stands for the book.
-use Rattle.std.proofs.Common.{◌≡◌, ℕ, suc, ◌+◌, ◌-◌, ◌*◌, ◌≤◌, ◌<◌, true, List, [], ◌∷◌, ◌++◌, length, set, take, drop, replicate, Some, Ok, refl, sym, ap, ap₂, subst, ◌∙◌, append-nil, append_assoc, add-zero, arith, length-append, lt-ltb}
+use Rattle.std.proofs.Common.{◌≡◌, ℕ, suc, ◌+◌, ◌-◌, ◌*◌, ◌≤◌, ◌<◌, true, List, [], ◌∷◌, ◌++◌, length, set, take, drop, replicate, Ok, refl, sym, ap, ap₂, ◌∙◌, append-nil, append_assoc, add-zero, arith, length-append, lt-ltb}
 use Rattle.std.proofs.lemmas.List.{length-map, replicate-append-replicate}
 use Rattle.std.proofs.Math.Seq.{paste}
 use Rattle.lists.specs.Paste.{slice_part}
@@ -8,9 +8,8 @@ use Rattle.book.specs.declared.Counts.{Counts}
 use Rattle.book.specs.declared.Loaded.{Loaded}
 use Rattle.book.specs.declared.Needs.{Needs}
 use Rattle.dates.specs.Dates.{window_fits}
-use Rattle.book.specs.declared.Kind.{Kind}
 use Rattle.book.specs.Book.{RuleSet, Book, All, all_paths, are_vertices}
-use Rattle.book.specs.Reading.{needs_at, path_at, end_at, length_at, taken, add_path}
+use Rattle.book.specs.Reading.{path_at, end_at, length_at, add_path, with_set, with_path}
 use Rattle.book.specs.Tables.{needs_of, nothing_needed, owners_from, entries, padded_with, padded, needs_table, owner_table, path_table, IsLoaded, AreTables, Leaves}
 use Rattle.book.specs.BookLaws.{bare, paths-set}
 use Rattle.book.proofs.BookLaws.{all_map, length-sets-path, paths-path}
@@ -51,11 +50,10 @@ module _ (p : List ℕ) where
       ∙ ap (λ j. replicate (length s.paths) k ++ owners_from (suc k) (s' ∷ ss) ++ (j ∷ [])) (omega arith)
 
 -- ---- the tables
-pub needs_after_set : (t : List Needs) (k : ℕ) (x f : Needs) (ss : List RuleSet) → length ss < most_sets → t ≡ needs_table ss → k ≡ length ss → x ≡ f
-    → set t k x ≡ needs_table (ss ++ bare f)
-needs_after_set t k x f ss few held at-end value =
-    ap₂ (λ u j. set u j x) held (at-end ∙ sym (length-map ss _))
-    ∙ ap (λ y. set (needs_table ss) (length (needs_of ss)) y) value
+pub needs_after_set : (t : List Needs) (k : ℕ) (f : Needs) (ss : List RuleSet) → length ss < most_sets → t ≡ needs_table ss → k ≡ length ss
+    → set t k f ≡ needs_table (ss ++ bare f)
+needs_after_set t k f ss few held at-end =
+    ap₂ (λ u j. set u j f) held (at-end ∙ sym (length-map ss _))
     ∙ padded-set nothing_needed most_sets (needs_of ss) f (omega (arith, length-map ss (λ (s : RuleSet). s.needs)))
     ∙ ap (padded_with nothing_needed most_sets) (sym (needs-set f ss))
 
@@ -82,47 +80,41 @@ entry-added e k n ss p some-set held count room short size small =
     ∙ ap (padded area_size) (sym (entries_snoc (all_paths ss) p) ∙ ap entries (sym (paths-path p ss some-set)))
 
 -- ---- what stands for the book then
-module _ (l : Loaded) (s : List ℕ) (b : Book) (at : ℕ) (h : IsLoaded b l) where
+module _ (l : Loaded) (b : Book) (h : IsLoaded b l) (at : ℕ) where
   sets-are : l.counts.sets ≡ length b.sets
   sets-are = ap (λ (d : Counts). d.sets) h.counted
 
   paths_are : l.counts.paths ≡ length (all_paths b.sets)
   paths_are = ap (λ (d : Counts). d.paths) h.counted
 
-  pub set-added : (x : Needs) → x ≡ needs_at s at → window_fits x.window ≡ true → l.counts.sets < most_sets
-      → Leaves AreTables (taken (Some Kind.RuleSet) s b at)
+  pub set-added : (f : Needs) → window_fits f.window ≡ true → l.counts.sets < most_sets
+      → Leaves AreTables (with_set b at f)
       (Ok (record {
         counts = record { vertices = l.counts.vertices; arcs = l.counts.arcs; sets = l.counts.sets + 1; paths = l.counts.paths };
         weights = l.weights;
-        needs = set l.needs l.counts.sets x;
+        needs = set l.needs l.counts.sets f;
         owners = l.owners;
         entries = l.entries;
       }))
-  set-added x e season room =
+  set-added f season room =
       let few : length b.sets < most_sets = omega (arith, sets-are) in
-      let held : window_fits (needs_at s at).window ≡ true = subst (λ (y : Needs). window_fits y.window ≡ true) e season in
-      rw (held, lt-ltb (length b.sets) most_sets few)
+      rw (season, lt-ltb (length b.sets) most_sets few)
       (record {
         counts_are =
             ap (λ (d : Counts). record { vertices = d.vertices; arcs = d.arcs; sets = d.sets + 1; paths = d.paths }) h.counted
             ∙ ap₂ (λ n m. record { vertices = b.count; arcs = length b.arcs; sets = n; paths = m })
-            (sym (length-append b.sets (bare (needs_at s at))))
-            (sym (ap length (paths-set (needs_at s at) b.sets)));
+            (sym (length-append b.sets (bare f)))
+            (sym (ap length (paths-set f b.sets)));
         weights_are = h.graph.weights_are;
-        needs_are = needs_after_set l.needs l.counts.sets x (needs_at s at) b.sets few h.sets.needs_are sets-are e;
-        owners_are = h.sets.owners_are ∙ ap (padded most_paths) (sym (owners_set (needs_at s at) 0 b.sets));
-        paths_are = h.sets.paths_are ∙ ap (λ ps. padded area_size (entries ps)) (sym (paths-set (needs_at s at) b.sets));
+        needs_are = needs_after_set l.needs l.counts.sets f b.sets few h.sets.needs_are sets-are;
+        owners_are = h.sets.owners_are ∙ ap (padded most_paths) (sym (owners_set f 0 b.sets));
+        paths_are = h.sets.paths_are ∙ ap (λ ps. padded area_size (entries ps)) (sym (paths-set f b.sets));
       })
 
-  pub path_part : (end : ℕ) → end ≡ end_at s at → end_at s at ≤ length s → take (end - (at + 3)) (drop (at + 3) s) ≡ path_at s at
-  path_part end is whole =
-      let size : end - (at + 3) ≡ length_at s at = omega arith in
-      ap (λ n. take n (drop (at + 3) s)) size ∙ sym (slice_part (at + 3) (length_at s at) s whole)
-
-  pub path-added : (p : List ℕ) → p ≡ path_at s at → are_vertices l.counts.vertices p ≡ true → l.counts.paths < most_paths → 1 ≤ l.counts.sets
+  pub path-added : (p : List ℕ) → are_vertices l.counts.vertices p ≡ true → l.counts.paths < most_paths → 1 ≤ l.counts.sets
       → length p ≤ longest_path → (e : List ℕ)
       → e ≡ paste (set l.entries (l.counts.paths * entry_size) (length p)) (l.counts.paths * entry_size + 1) p (length p)
-      → Leaves AreTables (taken (Some Kind.Path) s b at)
+      → Leaves AreTables (with_path b at p)
       (Ok (record {
         counts = record { vertices = l.counts.vertices; arcs = l.counts.arcs; sets = l.counts.sets; paths = l.counts.paths + 1 };
         weights = l.weights;
@@ -130,24 +122,29 @@ module _ (l : Loaded) (s : List ℕ) (b : Book) (at : ℕ) (h : IsLoaded b l) wh
         owners = set l.owners l.counts.paths (l.counts.sets - 1);
         entries = e;
       }))
-  path-added p is vertices room some short e copied =
+  path-added p vertices room some short e copied =
       let some-set : 1 ≤ length b.sets = omega (arith, sets-are) in
       let owner : l.counts.sets - 1 ≡ length b.sets - 1 = omega (arith, sets-are) in
-      let good : are_vertices b.count (path_at s at) ≡ true = ap₂ are_vertices (sym h.graph.vertices_are) (sym is) ∙ vertices in
+      let good : are_vertices b.count p ≡ true = ap (λ n. are_vertices n p) (sym h.graph.vertices_are) ∙ vertices in
       let few : length (all_paths b.sets) < most_paths = omega (arith, paths_are) in
       rw (good, lt-ltb (length (all_paths b.sets)) most_paths few)
       (record {
         counts_are =
             ap (λ (d : Counts). record { vertices = d.vertices; arcs = d.arcs; sets = d.sets; paths = d.paths + 1 }) h.counted
             ∙ ap₂ (λ n m. record { vertices = b.count; arcs = length b.arcs; sets = n; paths = m })
-            (sym (length-sets-path (path_at s at) b.sets))
-            (sym (ap length (paths-path (path_at s at) b.sets some-set) ∙ length-append (all_paths b.sets) (path_at s at ∷ [])));
+            (sym (length-sets-path p b.sets))
+            (sym (ap length (paths-path p b.sets some-set) ∙ length-append (all_paths b.sets) (p ∷ [])));
         weights_are = h.graph.weights_are;
-        needs_are = h.sets.needs_are ∙ ap (padded_with nothing_needed most_sets) (sym (needs-path (path_at s at) b.sets));
-        owners_are = owner_added l.owners l.counts.paths _ b.sets (path_at s at) some-set h.sets.owners_are paths_are room owner;
+        needs_are = h.sets.needs_are ∙ ap (padded_with nothing_needed most_sets) (sym (needs-path p b.sets));
+        owners_are = owner_added l.owners l.counts.paths _ b.sets p some-set h.sets.owners_are paths_are room owner;
         paths_are =
             copied
-            ∙ ap (λ q. paste (set l.entries (l.counts.paths * entry_size) (length p)) (l.counts.paths * entry_size + 1) q (length p)) is
-            ∙ entry-added l.entries l.counts.paths (length p) b.sets (path_at s at) some-set h.sets.paths_are paths_are room
-            (all_map (λ q k. k.eight) (all_paths b.sets) h.graph.well.paths-proper) (ap length is) short;
+            ∙ entry-added l.entries l.counts.paths (length p) b.sets p some-set h.sets.paths_are paths_are room
+            (all_map (λ q k. k.eight) (all_paths b.sets) h.graph.well.paths-proper) refl short;
       })
+
+-- ---- the bytes of a field's path
+pub path_part : (s : List ℕ) (at end : ℕ) → end ≡ end_at s at → end_at s at ≤ length s → take (end - (at + 3)) (drop (at + 3) s) ≡ path_at s at
+path_part s at end is whole =
+    let size : end - (at + 3) ≡ length_at s at = omega arith in
+    ap (λ n. take n (drop (at + 3) s)) size ∙ sym (slice_part (at + 3) (length_at s at) s whole)

@@ -1,17 +1,16 @@
 -- An arc that is entered, by what its tests and the table of weights say; and the field of an arc.
-use Rattle.std.proofs.Common.{◌≡◌, ℕ, ◌+◌, ◌*◌, ◌<◌, ◌≤◌, Bool, true, List, [], ◌∷◌, length, get_or, set, Some, Ok, Err, refl, sym, ap, ap₂, subst, ◌∙◌, arith, length-append}
+use Rattle.std.proofs.Common.{◌≡◌, ℕ, ◌+◌, ◌*◌, ◌<◌, ◌≤◌, Bool, true, List, [], ◌∷◌, length, get_or, set, Ok, Err, refl, sym, ap, ap₂, ◌∙◌, arith, length-append}
 use Rattle.std.proofs.Math.Option.{Option, none, some}
 use Rattle.limits.specs.Limits.{most_vertices, no_arc}
 use Rattle.walks.specs.Graph.{Arc}
 use Rattle.book.specs.declared.Counts.{Counts}
-use Rattle.book.specs.declared.Kind.{Kind}
 use Rattle.book.specs.declared.Loaded.{Loaded}
 use Rattle.book.specs.declared.Refusal.{Refusal}
 use Rattle.book.specs.declared.Refusal.TheVariants.{Repeated}
 use Rattle.book.specs.Refusal.{first_failure}
 use Rattle.book.specs.Book.{Book, IsArc, all_paths, proper_arc}
 use Rattle.book.proofs.BookLaws.{is-arc}
-use Rattle.book.specs.Reading.{Reading, accepted, refused, outcome, verdict_of, u32_at, arc_at, arc_tests, add_arc, with_arc, taken, kept}
+use Rattle.book.specs.Reading.{Reading, accepted, refused, outcome, verdict_of, u32_at, arc_at, arc_tests, add_arc, with_arc, kept}
 use Rattle.book.proofs.TableLaws.{entered-arc, marked→free, unmarked→given}
 use Rattle.book.specs.Tables.{IsGraph, IsLoaded, AreTables, Leaves, Enters, weight_table}
 
@@ -60,6 +59,7 @@ pub arc-read : (s : List ℕ) (at tail head weight : ℕ) → tail ≡ get_or s 
     → record { tail = tail; head = head; weight = weight } ≡ arc_at s at
 arc-read s at tail head weight t h w = rw (t, h, w) refl
 
+-- ---- one that is entered and counted
 refusal-told : (x : Reading) (r : Refusal) → Err r ≡ verdict_of x → Leaves AreTables x (Err r)
 refusal-told (accepted b) r e = absurd (cc)
 refusal-told (refused q) r e = cc
@@ -68,14 +68,12 @@ good-adds : (o : Option Refusal) (d : Book) → Ok tt ≡ verdict_of (outcome o 
 good-adds none d e = refl
 good-adds (some r) d e = absurd (cc)
 
-module _ (l : Loaded) (s : List ℕ) (b : Book) (at : ℕ) (h : IsLoaded b l) (a : Arc) (read : a ≡ arc_at s at) (t : List ℕ) where
-  pub field-refused : (r : Refusal) → Enters b at a (Err r) t → Leaves AreTables (taken (Some Kind.Arc) s b at) (Err r)
-  field-refused r enters =
-      let here : Enters b at (arc_at s at) (Err r) t = subst (λ x. Enters b at x (Err r) t) read enters in
-      refusal-told (taken (Some Kind.Arc) s b at) r here.0
+module _ (l : Loaded) (b : Book) (at : ℕ) (h : IsLoaded b l) (a : Arc) (t : List ℕ) where
+  pub arc-refused : (r : Refusal) → Enters b at a (Err r) t → Leaves AreTables (with_arc b at a) (Err r)
+  arc-refused r enters = refusal-told (with_arc b at a) r enters.0
 
-  pub field-added : Enters b at a (Ok tt) t
-      → Leaves AreTables (taken (Some Kind.Arc) s b at)
+  pub arc-counted : Enters b at a (Ok tt) t
+      → Leaves AreTables (with_arc b at a)
       (Ok (record {
         counts = record { vertices = l.counts.vertices; arcs = l.counts.arcs + 1; sets = l.counts.sets; paths = l.counts.paths };
         weights = t;
@@ -83,17 +81,15 @@ module _ (l : Loaded) (s : List ℕ) (b : Book) (at : ℕ) (h : IsLoaded b l) (a
         owners = l.owners;
         entries = l.entries;
       }))
-  field-added enters =
-      let here : Enters b at (arc_at s at) (Ok tt) t = subst (λ x. Enters b at x (Ok tt) t) read enters in
-      let is : with_arc b at (arc_at s at) ≡ accepted (add_arc b (arc_at s at)) =
-      good-adds (first_failure (arc_tests b at (arc_at s at))) (add_arc b (arc_at s at)) here.0 in
+  arc-counted enters =
+      let is : with_arc b at a ≡ accepted (add_arc b a) = good-adds (first_failure (arc_tests b at a)) (add_arc b a) enters.0 in
       rw is
       (record {
         counts_are =
             ap (λ (d : Counts). record { vertices = d.vertices; arcs = d.arcs + 1; sets = d.sets; paths = d.paths }) h.counted
             ∙ ap (λ n. record { vertices = b.count; arcs = n; sets = length b.sets; paths = length (all_paths b.sets) })
-            (sym (length-append b.arcs (arc_at s at ∷ [])));
-        weights_are = here.1 ∙ ap (λ x. weight_table (kept b x).arcs) is;
+            (sym (length-append b.arcs (a ∷ [])));
+        weights_are = enters.1 ∙ ap (λ x. weight_table (kept b x).arcs) is;
         needs_are = h.sets.needs_are;
         owners_are = h.sets.owners_are;
         paths_are = h.sets.paths_are;

@@ -11,6 +11,7 @@ use Rattle.std.proofs.Math.Option.{Option, none, some}
 use Rattle.std.proofs.Math.Seq.{length-slice}
 use Rattle.limits.specs.Limits.{longest_path, most_paths, most_sets, most_vertices}
 use Rattle.book.specs.declared.Refusal.{Refusal}
+use Rattle.book.specs.declared.Refusal.TheVariants.{Value, Repeated}
 use Rattle.book.specs.declared.Counts.{Counts}
 use Rattle.book.specs.declared.Kind.{Kind}
 use Rattle.book.specs.declared.Kind.TheVariants.{VertexCount, Path}
@@ -20,7 +21,7 @@ use Rattle.book.proofs.RefusalLaws.{none→hold}
 use Rattle.lists.specs.Test.{and-true, or_false, either}
 use Rattle.walks.specs.Graph.{Arc, is_some, weight_in}
 use Rattle.book.specs.Book.{RuleSet, Book, blank, all_paths, counts, given, proper_arc, are_vertices, is_path, All, IsArc, IsPath, PairsOnce, WellFormed}
-use Rattle.book.specs.Reading.{Reading, accepted, refused, read_as, kind_at, length_at, end_at, count_at, arc_at, needs_at, path_at, follows, fits, proper, fresh, room, extended, add_path, outcome, field, fields, and_then, reading}
+use Rattle.book.specs.Reading.{Reading, accepted, refused, read_as, kind_at, length_at, end_at, count_at, arc_at, needs_at, path_at, follows, fits, proper, fresh, room, extended, add_path, add_arc, with_arc, outcome, field, fields, and_then, reading}
 use Rattle.book.specs.BookLaws.{bare, paths-set, Passed, all_tests, IsBook}
 
 -- ---- lists
@@ -89,6 +90,10 @@ pub IsPath→is_path : (count : ℕ) (p : List ℕ) → IsPath count p → is_pa
 unfolding is_path
 IsPath→is_path count p h = rw (le-leb _ _ h.two, le-leb _ _ h.eight, below-vertices count p h.below)
 
+pub arc-taken : (b : Book) (at : ℕ) (a : Arc) → IsArc b.count a → given b.arcs a.tail a.head ≡ false → with_arc b at a ≡ accepted (add_arc b a)
+arc-taken b at a is new =
+    ap₂ (λ x y. outcome (cond x (cond (not y) none (some (Repeated at))) (some (Value at))) (add_arc b a)) (arc-passes b.count a is) new
+
 -- ---- one more arc
 pub given_cons : (a : Arc) (xs : List Arc) (t h : ℕ) → given (a ∷ xs) t h ≡ (eqb a.tail t && eqb a.head h || given xs t h)
 given_cons a xs t h = go (eqb a.tail t && eqb a.head h)
@@ -145,7 +150,7 @@ module _ (p : List ℕ) where
   paths-path (s ∷ []) h = simp (append_assoc, append-nil)
   paths-path (s ∷ (s' ∷ ss)) h = ap (λ l. s.paths ++ l) (paths-path (s' ∷ ss) (omega arith)) ∙ sym (append_assoc s.paths _ _)
 
-outcome-accepted : (o : Option Refusal) (b b' : Book) → outcome o b ≡ accepted b' → (o ≡ none) × (b' ≡ b)
+pub outcome-accepted : (o : Option Refusal) (b b' : Book) → outcome o b ≡ accepted b' → (o ≡ none) × (b' ≡ b)
 outcome-accepted none b b' e = (refl, cc)
 outcome-accepted (some r) b b' e = absurd (cc)
 
@@ -167,7 +172,7 @@ module _ (s : List ℕ) (b : Book) (at : ℕ) (b' : Book) (e : field s b at ≡ 
       }
 
 -- a field keeps a book well formed
-count-well_formed : (n : ℕ) (b : Book) → WellFormed b → b.count ≡ 0 → 1 ≤ n → n ≤ most_vertices
+pub count-well_formed : (n : ℕ) (b : Book) → WellFormed b → b.count ≡ 0 → 1 ≤ n → n ≤ most_vertices
     → WellFormed (record { count = n; arcs = b.arcs; sets = b.sets })
 count-well_formed n b w first low high =
     record {
@@ -197,7 +202,7 @@ arc-well_formed a b w value once =
       paths-proper = w.paths-proper;
     }
 
-set-well_formed : (f : Needs) (b : Book) → WellFormed b → 1 ≤ b.count → length b.sets < most_sets
+pub set-well_formed : (f : Needs) (b : Book) → WellFormed b → 1 ≤ b.count → length b.sets < most_sets
     → WellFormed (record { count = b.count; arcs = b.arcs; sets = b.sets ++ bare f })
 set-well_formed f b w low space =
     record {
@@ -210,7 +215,7 @@ set-well_formed f b w low space =
       paths-proper = rw (paths-set f b.sets) w.paths-proper;
     }
 
-path-well_formed : (p : List ℕ) (b : Book) → WellFormed b → 1 ≤ length b.sets → IsPath b.count p → length (all_paths b.sets) < most_paths
+pub path-well_formed : (p : List ℕ) (b : Book) → WellFormed b → 1 ≤ length b.sets → IsPath b.count p → length (all_paths b.sets) < most_paths
     → WellFormed (record { count = b.count; arcs = b.arcs; sets = add_path b.sets p })
 path-well_formed p b w some-set proper-path space =
     record {

@@ -8,10 +8,24 @@ use Rattle.book.specs.declared.Loaded.{Loaded}
 use Rattle.book.specs.declared.Refusal.{Refusal}
 use Rattle.book.specs.Refusal.{first_failure}
 use Rattle.book.proofs.RefusalLaws.{first-of_append, first-kept}
-use Rattle.book.specs.Book.{Book}
+use Rattle.book.specs.Book.{Book, WellFormed}
 use Rattle.book.proofs.BookLaws.{field-well_formed}
 use Rattle.book.specs.Reading.{Reading, accepted, refused, verdict, kind_at, framing, content, framed, extended, outcome, taken, field}
 use Rattle.book.specs.Tables.{IsLoaded, AreTables, Leaves, LoadedAs, left}
+
+-- ---- what is taken stands for a well-formed book
+pub tables-well : (x : Reading) → ((b : Book) → x ≡ accepted b → WellFormed b) → (r : Result Unit Refusal) (l : Loaded)
+    → Leaves AreTables x (left r l) → LoadedAs x (left r l)
+tables-well (accepted b) formed (Ok u) l t =
+    let w = formed b refl in
+    record {
+      counted = t.counts_are;
+      graph = record { well = w; vertices_are = ap (λ (d : Counts). d.vertices) t.counts_are; weights_are = t.weights_are };
+      sets = record { well = w; counted = ap (λ (d : Counts). d.paths) t.counts_are; needs_are = t.needs_are; owners_are = t.owners_are; paths_are = t.paths_are };
+    }
+tables-well (accepted b) formed (Err r) l t = t
+tables-well (refused q) formed (Ok u) l t = t
+tables-well (refused q) formed (Err r) l t = t
 
 -- ---- a frame
 verdict-read : {A : Type 0} (o : Option Refusal) (x y : A) → verdict o x ≡ Ok y → (o ≡ none) × (x ≡ y)
@@ -40,21 +54,8 @@ module _ (s : List ℕ) (at : ℕ) (b : Book) (l : Loaded) (h : IsLoaded b l) wh
       ∙ ap (λ o. outcome o (extended (kind_at s at) s b at))
       (sym (first-of_append (framing s b.count (length b.sets) at) (content (kind_at s at) s b at) (sym frame_first ∙ passed)))
 
-  -- what is taken stands for a well-formed book
-  well : (x : Reading) → field s b at ≡ x → (r : Result Unit Refusal) (l' : Loaded) → Leaves AreTables x (left r l') → LoadedAs x (left r l')
-  well (accepted b') is (Ok u) l' t =
-      let counted = t.counts_are in
-      let formed = field-well_formed s b at b' h.graph.well is in
-      record {
-        counted = counted;
-        graph = record { well = formed; vertices_are = ap (λ (d : Counts). d.vertices) counted; weights_are = t.weights_are };
-        sets = record { well = formed; counted = ap (λ (d : Counts). d.paths) counted; needs_are = t.needs_are; owners_are = t.owners_are; paths_are = t.paths_are };
-      }
-  well (accepted b') is (Err r) l' t = t
-  well (refused q) is (Ok u) l' t = t
-  well (refused q) is (Err r) l' t = t
-
   pub field-taken : (k : Kind) (r : Result Unit Refusal) (l' : Loaded) → framed s at l.counts ≡ Ok (Some k)
       → Leaves AreTables (taken (Some k) s b at) (left r l') → LoadedAs (field s b at) (left r l')
   field-taken k r l' e t =
-      well (field s b at) refl r l' (subst (λ x. Leaves AreTables x (left r l')) (same-field (Some k) e) t)
+      tables-well (field s b at) (λ b' is. field-well_formed s b at b' h.graph.well is) r l'
+      (subst (λ x. Leaves AreTables x (left r l')) (same-field (Some k) e) t)

@@ -7,4 +7,5 @@ pub mod Fields
 pub mod LoadedLaws
 pub mod Loop
 pub mod RefusalLaws
+pub mod Reordered
 pub mod TableLaws

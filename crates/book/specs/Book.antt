@@ -50,6 +50,10 @@ path_length n = leb 2 n && leb n longest_path
 unfoldable pub is_path : ℕ → List ℕ → Bool
 is_path count p = path_length (length p) && are_vertices count p
 
+-- a count of vertices that a book may have
+abbrev pub is_count : ℕ → Bool
+is_count n = leb 1 n && leb n most_vertices
+
 -- two different vertices below the count, and a weight of at most 1,000,000 (01: litres)
 abbrev pub proper_arc : ℕ → Arc → Bool
 proper_arc count a = ltb a.tail count && ltb a.head count && not (eqb a.tail a.head) && leb a.weight heaviest

@@ -13,9 +13,9 @@ use Rattle.book.specs.Refusal.{Test, test_at, numbered, first_failure, refusal_b
 use Rattle.dates.specs.declared.MonthDay.{MonthDay}
 use Rattle.dates.specs.declared.Window.{Window}
 use Rattle.dates.specs.Dates.{window_fits}
-use Rattle.limits.specs.Limits.{most_vertices, most_sets, most_paths}
+use Rattle.limits.specs.Limits.{most_sets, most_paths}
 use Rattle.walks.specs.Graph.{Arc}
-use Rattle.book.specs.Book.{RuleSet, Book, blank, all_paths, counts, given, proper_arc, path_length, are_vertices}
+use Rattle.book.specs.Book.{RuleSet, Book, blank, all_paths, counts, given, is_count, proper_arc, path_length, are_vertices}
 
 -- A byte string is a book, or is refused.
 pub data Reading : Type 0 where
@@ -92,7 +92,7 @@ fits None n = false
 
 -- 4: the value is within its limits
 abbrev pub proper : Prelude.Option Kind → List ℕ → Book → ℕ → Bool
-proper (Some VertexCount) s b at = leb 1 (count_at s at) && leb (count_at s at) most_vertices
+proper (Some VertexCount) s b at = is_count (count_at s at)
 proper (Some Kind.Arc) s b at = proper_arc b.count (arc_at s at)
 proper (Some Kind.RuleSet) s b at = true
 proper (Some Path) s b at = are_vertices b.count (path_at s at)
@@ -115,11 +115,17 @@ fresh (Some Path) s b at = true
 fresh None s b at = true
 
 -- 6: at most 16 rule sets, and at most 256 paths in all
+abbrev pub set_room : Book → Bool
+set_room b = ltb (length b.sets) most_sets
+
+abbrev pub path_room : Book → Bool
+path_room b = ltb (length (all_paths b.sets)) most_paths
+
 abbrev pub room : Prelude.Option Kind → Book → Bool
 room (Some VertexCount) b = true
 room (Some Kind.Arc) b = true
-room (Some Kind.RuleSet) b = ltb (length b.sets) most_sets
-room (Some Path) b = ltb (length (all_paths b.sets)) most_paths
+room (Some Kind.RuleSet) b = set_room b
+room (Some Path) b = path_room b
 room None b = true
 
 -- the tests of a field, in 01's order: 1 for the head, 2, 3, 1 for the body; then 4, 5, 6, and 14 (02) in the place of 4
@@ -148,11 +154,14 @@ add_path (s ∷ (s' ∷ ss)) p = s ∷ add_path (s' ∷ ss) p
 abbrev pub add_arc : Book → Arc → Book
 add_arc b a = record { count = b.count; arcs = b.arcs ++ (a ∷ []); sets = b.sets }
 
+abbrev pub add_set : Book → Needs → Book
+add_set b f = record { count = b.count; arcs = b.arcs; sets = b.sets ++ (record { needs = f; paths = [] } ∷ []) }
+
 -- the book with the field at byte `at` added to it
 abbrev pub extended : Prelude.Option Kind → List ℕ → Book → ℕ → Book
 extended (Some VertexCount) s b at = record { count = count_at s at; arcs = b.arcs; sets = b.sets }
 extended (Some Kind.Arc) s b at = add_arc b (arc_at s at)
-extended (Some Kind.RuleSet) s b at = record { count = b.count; arcs = b.arcs; sets = b.sets ++ (record { needs = needs_at s at; paths = [] } ∷ []) }
+extended (Some Kind.RuleSet) s b at = add_set b (needs_at s at)
 extended (Some Path) s b at = record { count = b.count; arcs = b.arcs; sets = add_path b.sets (path_at s at) }
 extended None s b at = b
 
@@ -164,13 +173,37 @@ outcome (some r) b = refused r
 abbrev pub arc_of : Read → Arc
 arc_of a = record { tail = a.tail; head = a.head; weight = a.weight }
 
--- An arc after a book, whether it is a field's or an item's of a list: 4 and 5, told with its place.
+-- ---- what a book takes, whether a field of bytes says it or an item of a list: its tests, each told with its place
+-- 4 of a count
+abbrev pub count_tests : ℕ → ℕ → List Test
+count_tests at n = test_at at 4 (is_count n) ∷ []
+
+abbrev pub with_count : Book → ℕ → ℕ → Reading
+with_count b at n = outcome (first_failure (count_tests at n)) (record { count = n; arcs = b.arcs; sets = b.sets })
+
+-- 4 and 5 of an arc
 abbrev pub arc_tests : Book → ℕ → Arc → List Test
 arc_tests b at a =
     test_at at 4 (proper_arc b.count a) ∷ test_at at 5 (not (given b.arcs a.tail a.head)) ∷ []
 
 abbrev pub with_arc : Book → ℕ → Arc → Reading
 with_arc b at a = outcome (first_failure (arc_tests b at a)) (add_arc b a)
+
+-- 14 and 6 of a rule set
+abbrev pub set_tests : Book → ℕ → Needs → List Test
+set_tests b at f =
+    test_at at 14 (window_fits f.window) ∷ test_at at 6 (set_room b) ∷ []
+
+abbrev pub with_set : Book → ℕ → Needs → Reading
+with_set b at f = outcome (first_failure (set_tests b at f)) (add_set b f)
+
+-- 4 and 6 of a path
+abbrev pub path_tests : Book → ℕ → List ℕ → List Test
+path_tests b at p =
+    test_at at 4 (are_vertices b.count p) ∷ test_at at 6 (path_room b) ∷ []
+
+abbrev pub with_path : Book → ℕ → List ℕ → Reading
+with_path b at p = outcome (first_failure (path_tests b at p)) (record { count = b.count; arcs = b.arcs; sets = add_path b.sets p })
 
 -- what a reading comes to
 abbrev pub verdict_of : Reading → Result Unit Refusal

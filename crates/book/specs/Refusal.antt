@@ -3,7 +3,7 @@ use Rattle.std.specs.Prelude
 use Rattle.std.specs.Prelude.{ℕ, Bool, true, cond, ◌&&◌, List, [], ◌∷◌, ◌++◌, map, eqb, Some, None}
 use Rattle.std.proofs.Math.Option.{Option, none, some}
 use Rattle.book.specs.declared.Refusal.{Refusal}
-use Rattle.book.specs.declared.Refusal.TheVariants.{Truncated, Tag, Length, Value, Repeated, TooMany, Endpoint, Area, Invalid, NotAWalk, Ended, NotStanding, Full, Window, Date, PathLength, NoVertex}
+use Rattle.book.specs.declared.Refusal.TheVariants.{Truncated, Tag, Length, Value, Repeated, TooMany, Endpoint, Area, Invalid, NotAWalk, Ended, NotStanding, Full, Window, Date, PathLength, NoVertex, NoRoom}
 
 -- the number of each refusal (01, 02)
 abbrev pub number_of : Refusal → ℕ
@@ -24,6 +24,7 @@ number_of (Window at) = 14
 number_of Date = 15
 number_of PathLength = 16
 number_of NoVertex = 17
+number_of NoRoom = 18
 
 -- the value that it carries: the byte of a book's field (or the index of a list's item)
 abbrev pub place_of : Refusal → Prelude.Option ℕ
@@ -44,14 +45,15 @@ place_of (Window at) = Some at
 place_of Date = None
 place_of PathLength = None
 place_of NoVertex = None
+place_of NoRoom = None
 
--- The book's refusals, at a place; and the others in the order between the tests of an operation (01, 02: 8, 7, 15, 9, 10, 11, 16, 17, 12, 13), after the book's. Every
+-- The book's refusals, at a place; and the others in the order between the tests of an operation (01, 02: 8, 7, 15, 9, 10, 11, 16, 17, 12, 13, 18), after the book's. Every
 -- refusal stands in one of the two lists, and its rank is said here alone.
 abbrev pub book_refusals : ℕ → List Refusal
 book_refusals at = Truncated at ∷ Tag at ∷ Length at ∷ Value at ∷ Window at ∷ Repeated at ∷ TooMany at ∷ []
 
 abbrev pub refusals_in_order : List Refusal
-refusals_in_order = Area ∷ Endpoint ∷ Date ∷ Invalid ∷ NotAWalk ∷ Ended ∷ PathLength ∷ NoVertex ∷ NotStanding ∷ Full ∷ []
+refusals_in_order = Area ∷ Endpoint ∷ Date ∷ Invalid ∷ NotAWalk ∷ Ended ∷ PathLength ∷ NoVertex ∷ NotStanding ∷ Full ∷ NoRoom ∷ []
 
 -- The one with a number, as `number_of` has it: the definitions below and those of the operations name refusals by their numbers alone.
 abbrev pub numbered_in : ℕ → List Refusal → Refusal

@@ -3,7 +3,7 @@ ghost use Rattle.std.specs.Prelude.{◌≡◌, true, ◌+◌, ◌≤◌, ◌<◌
 ghost use Rattle.dates.specs.Dates.{window_fits};
 ghost use Rattle.limits.specs.Limits.{most_vertices, most_sets, longest_path};
 ghost use Rattle.book.specs.Book.{Book, path_length, are_vertices, proper_arc, is_path};
-ghost use Rattle.book.specs.Reading.{u16_at, u32_at, day_at, window_at, needs_at, end_at, length_at, kind_of, framed, taken, arc_of};
+ghost use Rattle.book.specs.Reading.{u16_at, u32_at, day_at, window_at, needs_at, end_at, length_at, kind_of, framed, taken, arc_of, with_count, with_arc, with_set, with_path};
 ghost use Rattle.book.specs.Reading.{field as Reading-field, fits as Reading-fits, follows as Reading-follows};
 ghost use Rattle.book.specs.Tables.{IsGraph, IsLoaded, AreTables, Enters, Leaves, LoadedAs, left};
 
@@ -209,12 +209,11 @@ pub fn is_path(path: &[u8], vertices: usize) -> bool
     is_path_length(path.len()) && are_vertices(path, vertices)
 }
 
+// What a book takes: each tests what it takes, and adds it to the tables. A refusal carries `at`.
 impl Loaded {
-    fn vertex_count(&mut self, bytes: &[u8], at: usize) -> Result<(), Refusal>
-        requires { at + 4 ≤ length bytes.now }
-        ensures { (b : Book) → IsLoaded b self.old → Leaves AreTables (taken (Some Kind.VertexCount) bytes.now b at) (left result self.new) }
+    pub fn add_count(&mut self, at: usize, n: usize) -> Result<(), Refusal>
+        ensures { (b : Book) → IsLoaded b self.old → Leaves AreTables (with_count b at n) (left result self.new) }
     {
-        let n = usize::from(bytes[at + 3]);
         if !(1..=MOST_VERTICES).contains(&n) {
             return Err(Refusal::Value(at));
         }
@@ -222,28 +221,19 @@ impl Loaded {
         Ok(())
     }
 
-    fn arc(&mut self, bytes: &[u8], at: usize) -> Result<(), Refusal>
-        requires at_in_bounds { at + 9 ≤ length bytes.now }
+    pub fn add_arc(&mut self, at: usize, arc: Arc) -> Result<(), Refusal>
         requires few_vertices { self.old.counts.vertices ≤ most_vertices }
-        requires arcs_before { self.old.counts.arcs ≤ at }
-        ensures { (b : Book) → IsLoaded b self.old → Leaves AreTables (taken (Some Kind.Arc) bytes.now b at) (left result self.new) }
+        requires countable { self.old.counts.arcs < 0xffff_ffff_ffff_ffff }
+        ensures { (b : Book) → IsLoaded b self.old → Leaves AreTables (with_arc b at (arc_of arc)) (left result self.new) }
     {
-        let arc = Arc {
-            tail: usize::from(bytes[at + 3]),
-            head: usize::from(bytes[at + 4]),
-            weight: u32_at(bytes, at + 5) as usize,
-        };
         enter_arc(self.counts.vertices, at, arc, &mut self.weights)?;
         self.counts.arcs += 1;
         Ok(())
     }
 
-    fn rule_set(&mut self, bytes: &[u8], at: usize) -> Result<(), Refusal>
-        requires whole { end_at bytes.now at ≤ length bytes.now }
-        requires fit { Reading-fits (Some Kind.RuleSet) (length_at bytes.now at) ≡ true }
-        ensures { (b : Book) → IsLoaded b self.old → Leaves AreTables (taken (Some Kind.RuleSet) bytes.now b at) (left result self.new) }
+    pub fn add_set(&mut self, at: usize, needs: Needs) -> Result<(), Refusal>
+        ensures { (b : Book) → IsLoaded b self.old → Leaves AreTables (with_set b at needs) (left result self.new) }
     {
-        let needs = needs_at(bytes, at);
         if !needs.is_valid() {
             return Err(Refusal::Window(at));
         }
@@ -256,14 +246,12 @@ impl Loaded {
         Ok(())
     }
 
-    fn path(&mut self, bytes: &[u8], at: usize) -> Result<(), Refusal>
-        requires whole { end_at bytes.now at ≤ length bytes.now }
-        requires short { length_at bytes.now at ≤ longest_path }
+    pub fn add_path(&mut self, at: usize, path: &[u8]) -> Result<(), Refusal>
+        requires short { length path.now ≤ longest_path }
         requires some_set { 1 ≤ self.old.counts.sets }
         requires few_sets { self.old.counts.sets ≤ most_sets }
-        ensures { (b : Book) → IsLoaded b self.old → Leaves AreTables (taken (Some Kind.Path) bytes.now b at) (left result self.new) }
+        ensures { (b : Book) → IsLoaded b self.old → Leaves AreTables (with_path b at path.now) (left result self.new) }
     {
-        let path = &bytes[at + 3..field_end(bytes, at)];
         if !are_vertices(path, self.counts.vertices) {
             return Err(Refusal::Value(at));
         }
@@ -277,6 +265,45 @@ impl Loaded {
         self.entries[k * ENTRY + 1..k * ENTRY + 1 + n].copy_from_slice(path);
         self.counts.paths += 1;
         Ok(())
+    }
+
+    fn vertex_count(&mut self, bytes: &[u8], at: usize) -> Result<(), Refusal>
+        requires { at + 4 ≤ length bytes.now }
+        ensures { (b : Book) → IsLoaded b self.old → Leaves AreTables (taken (Some Kind.VertexCount) bytes.now b at) (left result self.new) }
+    {
+        self.add_count(at, usize::from(bytes[at + 3]))
+    }
+
+    fn arc(&mut self, bytes: &[u8], at: usize) -> Result<(), Refusal>
+        requires at_in_bounds { at + 9 ≤ length bytes.now }
+        requires few_vertices { self.old.counts.vertices ≤ most_vertices }
+        requires arcs_before { self.old.counts.arcs ≤ at }
+        ensures { (b : Book) → IsLoaded b self.old → Leaves AreTables (taken (Some Kind.Arc) bytes.now b at) (left result self.new) }
+    {
+        let arc = Arc {
+            tail: usize::from(bytes[at + 3]),
+            head: usize::from(bytes[at + 4]),
+            weight: u32_at(bytes, at + 5) as usize,
+        };
+        self.add_arc(at, arc)
+    }
+
+    fn rule_set(&mut self, bytes: &[u8], at: usize) -> Result<(), Refusal>
+        requires whole { end_at bytes.now at ≤ length bytes.now }
+        requires fit { Reading-fits (Some Kind.RuleSet) (length_at bytes.now at) ≡ true }
+        ensures { (b : Book) → IsLoaded b self.old → Leaves AreTables (taken (Some Kind.RuleSet) bytes.now b at) (left result self.new) }
+    {
+        self.add_set(at, needs_at(bytes, at))
+    }
+
+    fn path(&mut self, bytes: &[u8], at: usize) -> Result<(), Refusal>
+        requires whole { end_at bytes.now at ≤ length bytes.now }
+        requires short { length_at bytes.now at ≤ longest_path }
+        requires some_set { 1 ≤ self.old.counts.sets }
+        requires few_sets { self.old.counts.sets ≤ most_sets }
+        ensures { (b : Book) → IsLoaded b self.old → Leaves AreTables (taken (Some Kind.Path) bytes.now b at) (left result self.new) }
+    {
+        self.add_path(at, &bytes[at + 3..field_end(bytes, at)])
     }
 
     // Takes the field at byte `at`.

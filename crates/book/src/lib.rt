@@ -15,7 +15,7 @@ use limits::{AREA, MOST_PATHS, MOST_SETS, NO_ARC, PAIRS};
 use std::fmt;
 use walks::ArcTable;
 
-// The refusals of 01 and 02. A book's refusal holds the byte at which the field starts.
+// The refusals of 01 and 02. A book's refusal holds the byte at which the field starts, or the index of an item.
 #[derive(Clone, Copy, PartialEq, Eq, Debug)]
 pub enum Refusal {
     Truncated(usize),
@@ -35,6 +35,7 @@ pub enum Refusal {
     Date,
     PathLength,
     NoVertex,
+    NoRoom,
 }
 
 impl Refusal {
@@ -60,6 +61,7 @@ impl Refusal {
             Refusal::Date => 15,
             Refusal::PathLength => 16,
             Refusal::NoVertex => 17,
+            Refusal::NoRoom => 18,
         }
     }
 
@@ -140,7 +142,7 @@ pub struct Loaded {
 
 impl Loaded {
     // Nothing read yet.
-    fn blank() -> Loaded
+    pub fn blank() -> Loaded
         ensures { Blank result }
     {
         Loaded {

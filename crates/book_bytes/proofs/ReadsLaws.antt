@@ -49,7 +49,7 @@ not_none : (n : ℕ) → 1 ≤ n → not (eqb n 0) ≡ true
 not_none n h = ap not (ne_eqb n 0 (omega arith))
 
 -- ---- each part of a book
-abbrev book : ℕ → List Arc → List RuleSet → Book
+abbrev pub book : ℕ → List Arc → List RuleSet → Book
 book n arcs sets = record { count = n; arcs = arcs; sets = sets }
 
 count-read : (n : ℕ) → 1 ≤ n → n ≤ most_vertices → Reads blank (count_field n) (book n [] [])
@@ -77,16 +77,16 @@ module _ (n : ℕ) (low : 1 ≤ n) where
 
 -- the rule sets: the last of them has the paths that were read of it
 module _ (f : Needs) where
-  abbrev with_paths : List (List ℕ) → List RuleSet
+  abbrev pub with_paths : List (List ℕ) → List RuleSet
   with_paths ps = record { needs = f; paths = ps } ∷ []
 
-  path-last : (done : List RuleSet) (ps : List (List ℕ)) (p : List ℕ) → add_path (done ++ with_paths ps) p ≡ done ++ with_paths (ps ++ (p ∷ []))
+  pub path-last : (done : List RuleSet) (ps : List (List ℕ)) (p : List ℕ) → add_path (done ++ with_paths ps) p ≡ done ++ with_paths (ps ++ (p ∷ []))
   unfolding add_path
   path-last [] ps p = refl
   path-last (s ∷ []) ps p = refl
   path-last (s ∷ (s' ∷ done)) ps p = ap (λ l. s ∷ l) (path-last (s' ∷ done) ps p)
 
-paths_append : (ss rs : List RuleSet) → all_paths (ss ++ rs) ≡ all_paths ss ++ all_paths rs
+pub paths_append : (ss rs : List RuleSet) → all_paths (ss ++ rs) ≡ all_paths ss ++ all_paths rs
 unfolding all_paths
 paths_append [] rs = refl
 paths_append (s ∷ ss) rs = ap (λ l. s.paths ++ l) (paths_append ss rs) ∙ sym (append_assoc s.paths (all_paths ss) (all_paths rs))

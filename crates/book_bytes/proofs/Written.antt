@@ -42,7 +42,7 @@ flat_path (s ∷ []) p h =
     ∙ ap (λ l. l ++ path_field p) (sym (append-nil (set_fields s)))
 flat_path (s ∷ (s' ∷ ss)) p h = ap (λ l. set_fields s ++ l) (flat_path (s' ∷ ss) p (omega arith)) ∙ sym (append_assoc (set_fields s) _ _)
 
-needs-path : (ss : List RuleSet) (p : List ℕ) → All (λ s. ProperNeeds s.needs) ss → All (λ s. ProperNeeds s.needs) (add_path ss p)
+pub needs-path : (ss : List RuleSet) (p : List ℕ) → All (λ s. ProperNeeds s.needs) ss → All (λ s. ProperNeeds s.needs) (add_path ss p)
 unfolding add_path
 needs-path [] p h = tt
 needs-path (s ∷ []) p h = h

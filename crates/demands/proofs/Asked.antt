@@ -24,6 +24,7 @@ use Rattle.rules.specs.declared.Batch.{Batch}
 use Rattle.walk_check.specs.Checking.{check_tests}
 use Rattle.planner.specs.Planning.{plan_tests}
 use Rattle.reach.specs.Reaching.{reach_tests}
+use Rattle.writing.specs.Writing.{bytes_in_order, write_tests}
 use Rattle.trial_record.specs.declared.Record.{Record}
 use Rattle.trial_rules.specs.Trials.{Report, passed, failed, State, standing, is_forbidden_set, is_record, is_valid, Valid as ValidState, has_length, has_vertices, is_standing, has_room, said_tests, begin_tests}
 use Rattle.trial_rules.proofs.Tests.{once→Distinct, forbidden-set, →is_forbidden_set, is_valid→Valid}
@@ -31,7 +32,7 @@ use Rattle.judging.specs.Judging.{state_of, report_tests}
 use Rattle.trials.specs.OperationLaws.{record_part}
 use Rattle.demands.specs.Conditions.{Condition, AllHold, FirstFails, Decides}
 use Rattle.demands.proofs.Conditions.{first-none, first_some, le_iff, lt_iff, eq_iff, and-iff}
-use Rattle.demands.specs.Asked.{bind_conditions, check_conditions, plan_conditions, reach_conditions, begin_conditions, Sized, NamesGrades, Stands, Room, said_conditions, report_conditions, Good, Cause, Judges, Conditions}
+use Rattle.demands.specs.Asked.{bind_conditions, check_conditions, plan_conditions, reach_conditions, begin_conditions, write_conditions, Sized, NamesGrades, Stands, Room, said_conditions, report_conditions, Good, Cause, Judges, Conditions}
 
 -- ---- tests that decide conditions
 module _ (tests : Book → List Test) (conditions : Book → List Condition) (decides : (b : Book) → Decides 0 (in_order order (tests b)) (conditions b)) where
@@ -144,6 +145,9 @@ begin-decides batch start end paths walk b = (
   ),
 )
 
+write-decides : (area : List ℕ) (b : Book) → Decides 0 (write_tests area b) (write_conditions area b)
+write-decides area b = (le_iff (length (bytes_in_order b)) (length area), (refl, refl), λ _. tt)
+
 pub said-decides : (g : Graph) (σ : State) (ρ : Report) → Decides 0 (said_tests g σ ρ) (said_conditions g σ ρ)
 said-decides g σ ρ = (sized-iff ρ, (refl, refl), λ _. (grades-iff g ρ, (refl, refl), λ _. (stands-iff σ ρ, (refl, refl), λ _. (room-iff σ ρ, (refl, refl), λ _. tt))))
 
@@ -173,4 +177,5 @@ conditions r =
       begin = λ batch start end paths walk.
           judges (λ b. begin_tests batch (graph b) start end paths walk) (begin_conditions batch start end paths walk) (begin-decides batch start end paths walk) r;
       report = λ q paths walk ρ. judges (report_tests q paths walk ρ) (report_conditions q paths walk ρ) (report-decides q paths walk ρ) r;
+      write = λ area. judges (write_tests area) (write_conditions area) (write-decides area) r;
     }

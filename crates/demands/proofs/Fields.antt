@@ -19,14 +19,15 @@ use Rattle.book.specs.declared.Refusal.{Refusal}
 use Rattle.book.specs.Refusal.{numbered, first_failure}
 use Rattle.book.specs.Book.{Book, IsArc, blank, all_paths, given, proper_arc}
 use Rattle.book.proofs.BookLaws.{is-arc, arc-passes, vertices-below, below-vertices, given_cons, not-zero}
-use Rattle.book.specs.Reading.{accepted, refused, reading, and_then, outcome, fields, field, extended, kind_at, length_at, end_at, count_at, arc_at, window_at, path_at, follows, fits, proper, seasonal, fresh, room, add_arc, arc_tests}
+use Rattle.book.specs.Reading.{Reading, accepted, refused, reading, and_then, outcome, fields, field, extended, kind_at, length_at, end_at, count_at, arc_at, window_at, path_at, follows, fits, proper, seasonal, fresh, room, count_tests, with_arc}
 use Rattle.book_bytes.proofs.Adding.{edges-are}
 use Rattle.rules.proofs.Sets.{refuted}
-use Rattle.book.specs.declared.Arc.{Arc as Item}
-use Rattle.listed.specs.Listing.{arc_of, counting, items, listing}
+use Rattle.book.specs.declared.Arc.{Arc as Listed}
+use Rattle.listed.specs.Listing.{arc_of, items as list_items, counted, listing}
+use Rattle.content.specs.Content.{Item, an_arc, a_set, a_path, cut, items, item_tests, add_item, with_items, content}
 use Rattle.demands.specs.Conditions.{HasNumber, Decides}
 use Rattle.demands.proofs.Conditions.{one-refusal, first-none, first_some, le_iff, lt_iff, eq_iff, and-iff, zero_one}
-use Rattle.demands.specs.Fields.{Follows, Fits, Proper, Seasonal, New, Fresh, HasRoom, field_conditions, BadField, bad_field, good-field, BadBook, count_conditions, item_conditions, BadItem, bad_item, good_item, with_count, BadList, field_tests}
+use Rattle.demands.specs.Fields.{Follows, Fits, Proper, Seasonal, New, Fresh, HasRoom, field_conditions, BadField, bad_field, good-field, BadBook, count_conditions, item_conditions, BadItem, bad_item, good_item, counted_book, BadFrom, BadContent, listed_items, BadList, field_tests}
 
 -- ---- each test
 nothing-asked : (true ≡ true) ↔ Unit {0}
@@ -173,41 +174,74 @@ bad_book (c ∷ s) x = (λ e. inr (to_bad (c ∷ s) x (length (c ∷ s)) blank 0
     from (inl (e, _)) = zero_one (cc)
     from (inr f) = from_bad (c ∷ s) x (length (c ∷ s)) f (omega arith)
 
--- ---- a list
-item_decides : (i : ℕ) (b : Book) (a : Arc) → Decides i (arc_tests b i a) (item_conditions b a)
-item_decides i b a = (arc-iff b.count a, (refl, refl), λ _. (not_iff (given b.arcs a.tail a.head) (new-iff b.arcs a), (refl, refl), λ _. tt))
+-- ---- a content
+item_decides : (i : ℕ) (b : Book) (y : Item) → Decides i (item_tests b i y) (item_conditions b y)
+item_decides i b (an_arc a) = (arc-iff b.count a, (refl, refl), λ _. (not_iff (given b.arcs a.tail a.head) (new-iff b.arcs a), (refl, refl), λ _. tt))
+item_decides i b (a_set f) =
+    (lt_iff f.flags 65536, (refl, refl), λ _. (edges-are f.window, (refl, refl), λ _. (lt_iff (length b.sets) most_sets, (refl, refl), λ _. tt)))
+item_decides i b (a_path p) = (
+  and-iff (leb 2 (length p)) (leb (length p) longest_path) (le_iff 2 (length p)) (le_iff (length p) longest_path),
+  (refl, refl),
+  λ _. (
+    (vertices-below b.count p, below-vertices b.count p),
+    (refl, refl),
+    λ _. (lt_iff (length (all_paths b.sets)) most_paths, (refl, refl), λ _. tt),
+  ),
+)
+item_decides i b cut = (never, (refl, refl), λ _. tt)
 
-count-decides : (n : ℕ) → Decides 0 (counting n) (count_conditions n)
+pub count-decides : (n : ℕ) → Decides 0 (count_tests 0 n) (count_conditions n)
 count-decides n = (and-iff (leb 1 n) (leb n most_vertices) (le_iff 1 n) (le_iff n most_vertices), (refl, refl), λ _. tt)
 
 module _ (x : Refusal) where
-  to_bad_item : (i : ℕ) (xs : List Item) (b : Book) → items i xs b ≡ refused x → BadItem i xs b x
-  unfolding items
+  to_bad_item : (i : ℕ) (xs : List Item) (b : Book) → with_items i xs b ≡ refused x → BadItem i xs b x
+  unfolding with_items
   to_bad_item i [] b e = zero_one (cc)
-  to_bad_item i (a ∷ xs) b e = by (first_failure (arc_tests b i (arc_of a))) refl e (to_bad_item (suc i) xs)
+  to_bad_item i (y ∷ xs) b e = by (first_failure (item_tests b i y)) refl e (to_bad_item (suc i) xs)
     where
-      by : (o : Option Refusal) → first_failure (arc_tests b i (arc_of a)) ≡ o → and_then (outcome o (add_arc b (arc_of a))) (items (suc i) xs) ≡ refused x
-          → ((b' : Book) → items (suc i) xs b' ≡ refused x → BadItem (suc i) xs b' x) → BadItem i (a ∷ xs) b x
-      by none f e ih = good_item ((first-none i (arc_tests b i (arc_of a)) (item_conditions b (arc_of a)) (item_decides i b (arc_of a))).0 f) (ih _ e)
-      by (some y) f e ih = let same : y ≡ x = cc in bad_item ((first_some i (arc_tests b i (arc_of a)) (item_conditions b (arc_of a)) x (item_decides i b (arc_of a))).0 (f ∙ ap some same))
+      by : (o : Option Refusal) → first_failure (item_tests b i y) ≡ o → and_then (outcome o (add_item b y)) (with_items (suc i) xs) ≡ refused x
+          → ((b' : Book) → with_items (suc i) xs b' ≡ refused x → BadItem (suc i) xs b' x) → BadItem i (y ∷ xs) b x
+      by none f e ih = good_item ((first-none i (item_tests b i y) (item_conditions b y) (item_decides i b y)).0 f) (ih _ e)
+      by (some z) f e ih = let same : z ≡ x = cc in bad_item ((first_some i (item_tests b i y) (item_conditions b y) x (item_decides i b y)).0 (f ∙ ap some same))
 
-  from_bad_item : {i : ℕ} {xs : List Item} {b : Book} → BadItem i xs b x → items i xs b ≡ refused x
-  unfolding items
-  from_bad_item (bad_item {i = i} {a = a} {xs = xs} {b = b} f) =
-      ap (λ o. and_then (outcome o (add_arc b (arc_of a))) (items (suc i) xs)) ((first_some i (arc_tests b i (arc_of a)) (item_conditions b (arc_of a)) x (item_decides i b (arc_of a))).1 f)
-  from_bad_item (good_item {i = i} {a = a} {xs = xs} {b = b} h rest) =
-      ap (λ o. and_then (outcome o (add_arc b (arc_of a))) (items (suc i) xs)) ((first-none i (arc_tests b i (arc_of a)) (item_conditions b (arc_of a)) (item_decides i b (arc_of a))).1 h)
+  from_bad_item : {i : ℕ} {xs : List Item} {b : Book} → BadItem i xs b x → with_items i xs b ≡ refused x
+  unfolding with_items
+  from_bad_item (bad_item {i = i} {y = y} {xs = xs} {b = b} f) =
+      ap (λ o. and_then (outcome o (add_item b y)) (with_items (suc i) xs)) ((first_some i (item_tests b i y) (item_conditions b y) x (item_decides i b y)).1 f)
+  from_bad_item (good_item {i = i} {y = y} {xs = xs} {b = b} h rest) =
+      ap (λ o. and_then (outcome o (add_item b y)) (with_items (suc i) xs)) ((first-none i (item_tests b i y) (item_conditions b y) (item_decides i b y)).1 h)
       ∙ from_bad_item rest
 
--- A list is refused under x exactly for a bad count or a bad item.
-pub bad_list : (n : ℕ) (xs : List Item) (x : Refusal) → (listing n xs ≡ refused x) ↔ BadList n xs x
-bad_list n xs x = (λ e. to (first_failure (counting n)) refl e, from)
+-- A count and items are refused under x exactly for a bad count or a bad item.
+bad_from : (i n : ℕ) (xs : List Item) (x : Refusal) → (and_then (counted n) (with_items i xs) ≡ refused x) ↔ BadFrom i n xs x
+bad_from i n xs x = (λ e. to (first_failure (count_tests 0 n)) refl e, from)
   where
-    to : (o : Option Refusal) → first_failure (counting n) ≡ o → and_then (outcome o (with_count n)) (items 0 xs) ≡ refused x → BadList n xs x
-    to none f e = inr ((first-none 0 (counting n) (count_conditions n) (count-decides n)).0 f, to_bad_item x 0 xs (with_count n) e)
-    to (some y) f e = let same : y ≡ x = cc in inl ((first_some 0 (counting n) (count_conditions n) x (count-decides n)).0 (f ∙ ap some same))
+    to : (o : Option Refusal) → first_failure (count_tests 0 n) ≡ o → and_then (outcome o (counted_book n)) (with_items i xs) ≡ refused x → BadFrom i n xs x
+    to none f e = inr ((first-none 0 (count_tests 0 n) (count_conditions n) (count-decides n)).0 f, to_bad_item x i xs (counted_book n) e)
+    to (some y) f e = let same : y ≡ x = cc in inl ((first_some 0 (count_tests 0 n) (count_conditions n) x (count-decides n)).0 (f ∙ ap some same))
 
-    from : BadList n xs x → listing n xs ≡ refused x
-    from (inl f) = ap (λ o. and_then (outcome o (with_count n)) (items 0 xs)) ((first_some 0 (counting n) (count_conditions n) x (count-decides n)).1 f)
+    from : BadFrom i n xs x → and_then (counted n) (with_items i xs) ≡ refused x
+    from (inl f) = ap (λ o. and_then (outcome o (counted_book n)) (with_items i xs)) ((first_some 0 (count_tests 0 n) (count_conditions n) x (count-decides n)).1 f)
     from (inr (h, rest)) =
-        ap (λ o. and_then (outcome o (with_count n)) (items 0 xs)) ((first-none 0 (counting n) (count_conditions n) (count-decides n)).1 h) ∙ from_bad_item x rest
+        ap (λ o. and_then (outcome o (counted_book n)) (with_items i xs)) ((first-none 0 (count_tests 0 n) (count_conditions n) (count-decides n)).1 h) ∙ from_bad_item x rest
+
+pub bad_content : (n : ℕ) (arcs sets : List ℕ) (x : Refusal) → (content n arcs sets ≡ refused x) ↔ BadContent n arcs sets x
+bad_content n arcs sets x = bad_from 1 n (items arcs sets) x
+
+-- ---- a list
+and-then-same : (r : Reading) (f g : Book → Reading) → ((b : Book) → f b ≡ g b) → and_then r f ≡ and_then r g
+and-then-same (accepted b) f g same = same b
+and-then-same (refused y) f g same = refl
+
+-- Arcs as a list are arcs among a content's items.
+list_as_items : (i : ℕ) (xs : List Listed) (b : Book) → list_items i xs b ≡ with_items i (listed_items xs) b
+unfolding list_items with_items
+list_as_items i [] b = refl
+list_as_items i (a ∷ xs) b = and-then-same (with_arc b i (arc_of a)) (list_items (suc i) xs) (with_items (suc i) (listed_items xs)) (list_as_items (suc i) xs)
+
+-- A list is refused under x exactly for a bad count or a bad item.
+pub bad_list : (n : ℕ) (xs : List Listed) (x : Refusal) → (listing n xs ≡ refused x) ↔ BadList n xs x
+bad_list n xs x =
+    subst (λ r. (r ≡ refused x) ↔ BadList n xs x)
+    (sym (and-then-same (counted n) (list_items 0 xs) (with_items 0 (listed_items xs)) (list_as_items 0 xs)))
+    (bad_from 0 n (listed_items xs) x)

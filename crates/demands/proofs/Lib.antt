@@ -12,6 +12,7 @@ pub mod StutterLaws
 pub mod Theorems
 pub mod ToldLaws
 pub mod Witnesses
+pub mod WriteLaws
 pub mod Conditions
 pub mod Fields
 pub mod Marks

@@ -19,6 +19,8 @@ use Rattle.walk_check.specs.Checking.{named_at, answer_at, check_from, checked_u
 use Rattle.planner.specs.Planning.{plan_tests, Planned, PlanningOf, Answer as Outcome}
 use Rattle.reach.specs.Reaching.{reach_tests, answer_by, table_by, reached, table_after}
 use Rattle.listed.specs.Listing.{listing}
+use Rattle.content.specs.Content.{content}
+use Rattle.writing.specs.Writing.{write_tests, answer_by as length_by, area_by, length_written, area_after as written_after}
 use Rattle.trial_record.specs.declared.Record.{Record}
 use Rattle.trial_rules.specs.Trials.{Report, State, step, run}
 use Rattle.judging.specs.Judging.{state_of, report_tests}
@@ -27,7 +29,7 @@ use Rattle.trials.specs.OperationLaws.{rejected-for}
 use Rattle.series.specs.Reports.{reports_of}
 use Rattle.demands.specs.Conditions.{Condition}
 use Rattle.demands.proofs.Conditions.{zero_one}
-use Rattle.demands.proofs.Fields.{bad_book, bad_list}
+use Rattle.demands.proofs.Fields.{bad_book, bad_list, bad_content}
 use Rattle.demands.specs.Asked.{Judges}
 use Rattle.demands.proofs.Asked.{conditions}
 use Rattle.demands.specs.Demands.{ClearOrOccurs, tests_of_begin, Exactly, Refusals}
@@ -89,6 +91,11 @@ begin-tells (some y) σ paths walk x =
       keeps = λ e. let same : y ≡ x = cc in ap (λ z. answering (Err z) paths walk) same;
     }
 
+write-tells : (o : Option Refusal) (b : Book) (old : List ℕ) (x : Refusal) → Tells o x (length_by o b ≡ Err x) (area_by o b old ≡ old)
+write-tells none b old x = record { defined = (λ e. zero_one (cc), λ e. absurd (none-ne-some _ e)); keeps = λ e. zero_one (cc) }
+write-tells (some y) b old x =
+    record { defined = (λ e. let same : y ≡ x = cc in ap some same, λ e. let same : y ≡ x = cc in ap Err same); keeps = λ e. refl }
+
 pub report-tells : (o : Option Refusal) (σ : State) (q : Record) (paths walk : List ℕ) (x : Refusal)
     → Tells o x ((q' : Record) × ((reported_as o σ q paths walk).answer ≡ Err (rejected x q'))) (reported_as o σ q paths walk ≡ answering (Err (rejected x q)) paths walk)
 report-tells none σ q paths walk x =
@@ -106,6 +113,7 @@ refusals s x =
       read = read-iff (reading s) x;
       read-cause = bad_book s x;
       list_cause = λ n xs. bad_list n xs x;
+      content_cause = λ n arcs sets. bad_content n arcs sets x;
       bind = λ batch area. exactly ((conditions (reading s)).bind batch area) (tells-bind batch area).defined;
       check = λ area count w.
           exactly ((conditions (reading s)).check area count w) (check-iff (refusal_of (reading s) (check_tests area count w)) (occurrence (spelled count area) w) x);
@@ -120,6 +128,7 @@ refusals s x =
           exactly ((conditions (reading s)).begin batch start end paths walk)
           (begin-tells (refusal_of (reading s) (tests_of_begin batch start end paths walk)) (last batch start end reports paths walk) paths walk x).defined;
       report = λ q paths walk ρ. exactly ((conditions (reading s)).report q paths walk ρ) (tells-report q paths walk ρ).defined;
+      write = λ n arcs sets area. exactly ((conditions (content n arcs sets)).write area) (tells-write (content n arcs sets) area).defined;
       bind-keeps = λ batch area. (tells-bind batch area).keeps;
       plan-keeps = λ paths count start end old r new p. (tells-plan (reading s) paths count start end old r new p).keeps;
       plan_list_keeps = λ n xs paths count start end old r new p. (tells-plan (listing n xs) paths count start end old r new p).keeps;
@@ -129,6 +138,7 @@ refusals s x =
       replay-keeps = λ batch start end reports paths walk.
           (begin-tells (refusal_of (reading s) (tests_of_begin batch start end paths walk)) (last batch start end reports paths walk) paths walk x).keeps;
       report-keeps = λ q paths walk ρ. (tells-report q paths walk ρ).keeps;
+      write-keeps = λ n arcs sets area. (tells-write (content n arcs sets) area).keeps;
     }
   where
     g : Graph
@@ -157,3 +167,6 @@ refusals s x =
         → Tells (refusal_of (reading s) (report_tests q paths walk ρ)) x ((q' : Record) × ((reporting s q paths walk ρ).answer ≡ Err (rejected x q')))
         (reporting s q paths walk ρ ≡ answering (Err (rejected x q)) paths walk)
     tells-report q paths walk ρ = report-tells (refusal_of (reading s) (report_tests q paths walk ρ)) (step g (chosen g) (state_of q paths walk) ρ) q paths walk x
+
+    tells-write : (y : Reading) (area : List ℕ) → Tells (refusal_of y (write_tests area)) x (length_written y area ≡ Err x) (written_after y area ≡ area)
+    tells-write y area = write-tells (refusal_of y (write_tests area)) (book_in y) area x

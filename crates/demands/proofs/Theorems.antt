@@ -1,4 +1,4 @@
--- The three demands hold, and what 02, orders 1 to 5, adds to them.
+-- The three demands hold, and what 02, orders 1 to 6, adds to them.
 use Rattle.dates.proofs.CalendarDays.{month-days}
 use Rattle.dates.proofs.CalendarLaws.{date-is, one_day}
 use Rattle.dates.proofs.CalendarWindows.{whole_year, one_of_two}
@@ -10,7 +10,8 @@ use Rattle.book_bytes.proofs.BytesLaws.{bytes_below}
 use Rattle.book_bytes.proofs.Longest.{full_book, full_keeps, full_length}
 use Rattle.book_bytes.proofs.LongBook.{longest-book}
 use Rattle.book_bytes.proofs.RoundTrip.{every_book_read, round_trip, refused_otherwise, same-book}
-use Rattle.demands.specs.Demands.{Demand1, Demand2, Order1, Order2, Order3, Order4, Order5, Demand3}
+use Rattle.writing.proofs.AnyNumbers.{any-numbers}
+use Rattle.demands.specs.Demands.{Demand1, Demand2, Order1, Order2, Order3, Order4, Order5, Order6, Demand3}
 use Rattle.demands.proofs.AnswerLaws.{answers}
 use Rattle.demands.proofs.RefusalLaws.{refusals}
 use Rattle.demands.proofs.PlanLaws.{batch-plans}
@@ -20,6 +21,7 @@ use Rattle.demands.proofs.StutterLaws as stutters
 use Rattle.demands.proofs.PassLaws.{counted-first, settled-plans, settled-ends, few-by-plans, few-by-tables, never-over}
 use Rattle.demands.proofs.SeasonLaws as seasons
 use Rattle.demands.proofs.ToldLaws.{told, known, over}
+use Rattle.demands.proofs.WriteLaws as writes
 use Rattle.demands.proofs.LabLaws.{ruled, labs, replay-labs}
 
 pub demand_1 : Demand1
@@ -101,6 +103,30 @@ order-4 =
 
 pub order-5 : Order5
 order-5 = record { told = told; known = known; over = over }
+
+pub order-6 : Order6
+order-6 =
+    record {
+      taken = writes.taken;
+      every_book = writes.every_book;
+      in_32_bits = writes.in_32_bits;
+      whole = writes.whole;
+      cut_changeover = writes.cut_changeover;
+      cut_sheet = writes.cut_sheet;
+      cut_run = writes.cut_run;
+      no_others = any-numbers;
+      one_book = writes.one_book;
+      written = writes.written;
+      no_room = writes.no_room;
+      any_order_bytes = writes.any_order_bytes;
+      any_order = writes.any_order;
+      bad_in_any_order = writes.bad_in_any_order;
+      any_read = writes.any_read;
+      rewritten = writes.rewritten;
+      rewritten_as_written = writes.rewritten_as_written;
+      rewritten_as_it_is = writes.rewritten_as_it_is;
+      rewritten-refused = writes.rewritten-refused;
+    }
 
 pub demand_3 : Demand3
 demand_3 = record { after_calls = labs; after-replay = replay-labs; after_any = ruled }

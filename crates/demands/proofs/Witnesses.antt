@@ -1,24 +1,36 @@
 -- The premises of demand 3 can be met: on book A, under marks 3 on any date, from 0 to 3, for all lent areas that are long enough, by a lab whose trials end
 use Rattle.trials.specs.declared.Rejected.{Rejected}
 use Rattle.trials.specs.Operations.{rejected}
-use Rattle.std.specs.Prelude.{ℕ, ◌≤◌, refl, T, length, Result, Ok, Err}
+use Rattle.std.specs.Prelude.{ℕ, ◌+◌, ◌*◌, ◌≤◌, refl, T, length, take, Result, Ok, Err}
+use Rattle.std.proofs.Math.Seq.{take_all}
 use Rattle.std.proofs.Math.Path.{◌≡◌, ap, ap₂, subst}
 use Rattle.std.proofs.Common.{sym, ◌∙◌, inl, inr, ⊎_elim, arith}
-use mathlib.Core.List.{List, [], ◌∷◌, Memᴰ}
+use mathlib.Core.List.Permᴰ
+use mathlib.Core.List.{List, [], ◌∷◌, Memᴰ, Permᴰ, flat_map}
 use Rattle.std.proofs.Math.Option.{none, some}
 use Rattle.limits.specs.Limits.{area_size, longest}
 use Rattle.dates.specs.declared.Date.{Date}
 use Rattle.dates.specs.Dates.{month_day}
 use Rattle.dates.specs.Calendar.{IsDate, Inside}
 use Rattle.lists.specs.Test.{T→true}
+use Rattle.walks.specs.Graph.{Arc}
 use Rattle.walks.specs.Avoid.{Occurs}
 use Rattle.walks.proofs.Avoid.{occurs→Occurs, avoids→Avoids}
 use Rattle.walks.specs.Feasible.{is_feasible}
 use Rattle.walks.specs.Stutter.{Stutters}
 use Rattle.book.specs.declared.Refusal.{Refusal}
 use Rattle.book.specs.declared.Refusal.TheVariants.{Ended, NotStanding}
-use Rattle.book.specs.Book.{RuleSet, is_path, are_vertices}
-use Rattle.book.proofs.BookLaws.{is_path→IsPath}
+use Rattle.book.specs.Refusal.{number_of}
+use Rattle.book.specs.Book.{RuleSet, Book, is_path, are_vertices, all_paths}
+use Rattle.book.specs.Reading.{accepted, reading, fields, add_path}
+use Rattle.book.proofs.BookLaws.{is_path→IsPath, vertices-below}
+use Rattle.book_bytes.specs.Bytes.{AreBytes}
+use Rattle.book_bytes.proofs.BytesLaws.{length-bytes}
+use Rattle.content.specs.Content.{arc_items, set_items, with_items, content}
+use Rattle.writing.specs.Contents.{SameButOrder}
+use Rattle.writing.specs.Rising.{Rising, in_order}
+use Rattle.writing.specs.Writing.{bytes_in_order, length_written, area_after, WritingOf}
+use Rattle.writing.proofs.RisingLaws.{length_in_order}
 use Rattle.rules.specs.Binding.{covers, applied, once, known}
 use Rattle.trial_record.specs.declared.Record.{Record}
 use Rattle.trial_rules.specs.Trials.{Report, passed, failed, State, path_area, Valid, is_valid, is_record, is_forbidden_set, step}
@@ -34,9 +46,9 @@ use Rattle.examples.specs.Seasons.{bytes-summer, book_with, summer, sums as seas
 use Rattle.examples.specs.Trials.{not_there, too_late}
 use Rattle.demands.specs.Calls.{AcceptedBegin, opening, answer_on, answers_on, accepted_by, accepted_on, standing_in, TrueReport, TrueLab, LabSet}
 use Rattle.demands.proofs.CallLaws.{many_of_either, refused-kept, report-is, answer-is}
-use Rattle.demands.specs.Demands.{LabOutcome, ButStutteringRuns, SamePlans, added, no_more, SameBatches, RefusedUnder}
+use Rattle.demands.specs.Demands.{LabOutcome, ButStutteringRuns, SamePlans, added, no_more, SameBatches, RefusedUnder, Says}
 use Rattle.demands.proofs.LabLaws.{ruled, labs}
-use Rattle.demands.proofs.Theorems.{order-2, order-4, order-5}
+use Rattle.demands.proofs.Theorems.{order-2, order-4, order-5, order-6}
 
 -- The runs that are named.
 abbrev pub path-123 : List ℕ
@@ -258,3 +270,139 @@ told-34 date valid paths walk fits long =
     let β = begin-A date valid paths walk fits long in
     (order-5.told bytes_a book_a book-A (opening β).answer (opening β).paths (opening β).walk ((ruled β []).in-order, refl) (3 ∷ 4 ∷ [])).grade.1
     (omega arith, omega arith, 4, mathlib.Core.List.Memᴰ.tail (mathlib.Core.List.Memᴰ.head refl), omega arith)
+
+-- ---- 02, order 6
+-- Book A with a window on its second sheet: with its changeovers from last to first, in numbers, and with them in rising order, in numbers and in bytes.
+abbrev pub arc : ℕ → ℕ → ℕ → Arc
+arc tail head weight = record { tail = tail; head = head; weight = weight }
+
+abbrev pub with_arcs : List Arc → Book
+with_arcs arcs = record { count = 4; arcs = arcs; sets = (book_with summer).sets }
+
+abbrev pub from_last : List Arc
+from_last = arc 1 3 400 ∷ arc 2 1 50 ∷ arc 0 2 250 ∷ arc 2 3 100 ∷ arc 1 2 100 ∷ arc 0 1 100 ∷ []
+
+abbrev pub numbers_from_last : List ℕ
+numbers_from_last =
+    1 ∷ 3 ∷ 400
+    ∷ 2 ∷ 1 ∷ 50
+    ∷ 0 ∷ 2 ∷ 250
+    ∷ 2 ∷ 3 ∷ 100
+    ∷ 1 ∷ 2 ∷ 100
+    ∷ 0 ∷ 1 ∷ 100
+    ∷ []
+
+abbrev pub rising-a : List Arc
+rising-a = arc 0 1 100 ∷ arc 0 2 250 ∷ arc 1 2 100 ∷ arc 1 3 400 ∷ arc 2 1 50 ∷ arc 2 3 100 ∷ []
+
+abbrev pub numbers-rising : List ℕ
+numbers-rising =
+    0 ∷ 1 ∷ 100
+    ∷ 0 ∷ 2 ∷ 250
+    ∷ 1 ∷ 2 ∷ 100
+    ∷ 1 ∷ 3 ∷ 400
+    ∷ 2 ∷ 1 ∷ 50
+    ∷ 2 ∷ 3 ∷ 100
+    ∷ []
+
+-- The second sheet's window stands after 7: any number but 0 may.
+abbrev pub numbers_of_summer : List ℕ
+numbers_of_summer = 2 ∷ 7 ∷ 1 ∷ 5 ∷ 15 ∷ 9 ∷ 1 ∷ 3 ∷ 0 ∷ 2 ∷ 3 ∷ []
+
+abbrev pub numbers_of_sets : List ℕ
+numbers_of_sets = 1 ∷ 0 ∷ 1 ∷ 4 ∷ 0 ∷ 1 ∷ 2 ∷ 3 ∷ numbers_of_summer
+
+abbrev pub bytes-rising : List ℕ
+bytes-rising =
+    0x01 ∷ 0x00 ∷ 0x01 ∷ 0x04
+    ∷ 0x02 ∷ 0x00 ∷ 0x06 ∷ 0x00 ∷ 0x01 ∷ 0x00 ∷ 0x00 ∷ 0x00 ∷ 0x64
+    ∷ 0x02 ∷ 0x00 ∷ 0x06 ∷ 0x00 ∷ 0x02 ∷ 0x00 ∷ 0x00 ∷ 0x00 ∷ 0xfa
+    ∷ 0x02 ∷ 0x00 ∷ 0x06 ∷ 0x01 ∷ 0x02 ∷ 0x00 ∷ 0x00 ∷ 0x00 ∷ 0x64
+    ∷ 0x02 ∷ 0x00 ∷ 0x06 ∷ 0x01 ∷ 0x03 ∷ 0x00 ∷ 0x00 ∷ 0x01 ∷ 0x90
+    ∷ 0x02 ∷ 0x00 ∷ 0x06 ∷ 0x02 ∷ 0x01 ∷ 0x00 ∷ 0x00 ∷ 0x00 ∷ 0x32
+    ∷ 0x02 ∷ 0x00 ∷ 0x06 ∷ 0x02 ∷ 0x03 ∷ 0x00 ∷ 0x00 ∷ 0x00 ∷ 0x64
+    ∷ 0x03 ∷ 0x00 ∷ 0x02 ∷ 0x00 ∷ 0x01
+    ∷ 0x04 ∷ 0x00 ∷ 0x04 ∷ 0x00 ∷ 0x01 ∷ 0x02 ∷ 0x03
+    ∷ 0x03 ∷ 0x00 ∷ 0x06 ∷ 0x00 ∷ 0x02 ∷ 0x01 ∷ 0x05 ∷ 0x0f ∷ 0x09
+    ∷ 0x04 ∷ 0x00 ∷ 0x03 ∷ 0x00 ∷ 0x02 ∷ 0x03
+    ∷ []
+
+-- The numbers differ only in the order of the changeovers, and are taken.
+pub same-a : SameButOrder numbers_from_last numbers-rising
+unfolding flat_map
+same-a = record { given = from_last; given' = rising-a; first = refl; second = refl; permuted = moved }
+  where
+    -- one changeover after another is taken to the front
+    moved : Permᴰ from_last rising-a
+    moved =
+        Permᴰ.trans (Permᴰ.middle (arc 0 1 100) (arc 1 3 400 ∷ arc 2 1 50 ∷ arc 0 2 250 ∷ arc 2 3 100 ∷ arc 1 2 100 ∷ []) [])
+        (Permᴰ.cons refl
+        (Permᴰ.trans (Permᴰ.middle (arc 0 2 250) (arc 1 3 400 ∷ arc 2 1 50 ∷ []) (arc 2 3 100 ∷ arc 1 2 100 ∷ []))
+        (Permᴰ.cons refl (Permᴰ.middle (arc 1 2 100) (arc 1 3 400 ∷ arc 2 1 50 ∷ arc 2 3 100 ∷ []) []))))
+
+pub taken-a : content 4 numbers_from_last numbers_of_sets ≡ accepted (with_arcs from_last)
+unfolding arc_items set_items with_items are_vertices add_path all_paths
+taken-a = refl
+
+-- The changeovers are good.
+arcs_alone : content 4 numbers_from_last [] ≡ accepted (record { count = 4; arcs = from_last; sets = [] })
+unfolding arc_items set_items with_items
+arcs_alone = refl
+
+-- The book in rising order is read from its bytes, and the numbers say it.
+read-rising : reading bytes-rising ≡ accepted (with_arcs rising-a)
+unfolding reading fields are_vertices add_path all_paths
+read-rising = refl
+
+says-rising : Says 4 numbers-rising numbers_of_sets (with_arcs rising-a)
+unfolding flat_map
+says-rising = (
+  refl,
+  record {
+    arcs_are = refl;
+    sets_are = (0 ∷ [], numbers_of_summer, refl, (7 ∷ 1 ∷ 5 ∷ 15 ∷ 9 ∷ [], [], (7, omega arith, refl), refl, refl), refl);
+  },
+)
+
+are-bytes : AreBytes bytes-rising
+unfolding are_vertices
+are-bytes = vertices-below 256 bytes-rising refl
+
+rises : Rising rising-a
+rises = (
+  (inr (refl, omega arith), (inl (omega arith), (inl (omega arith), (inl (omega arith), (inl (omega arith), tt))))),
+  (
+    (inl (omega arith), (inl (omega arith), (inl (omega arith), (inl (omega arith), tt)))),
+    (
+      (inr (refl, omega arith), (inl (omega arith), (inl (omega arith), tt))),
+      ((inl (omega arith), (inl (omega arith), tt)), ((inr (refl, omega arith), tt), (tt, tt))),
+    ),
+  ),
+)
+
+-- From last to first it has 85 bytes too.
+needs-85 : length (bytes_in_order (with_arcs from_last)) ≡ 85
+unfolding all_paths
+needs-85 =
+    let b = with_arcs from_last in
+    let (keeps, _) = (order-6.taken 4 numbers_from_last numbers_of_sets b).0 taken-a in
+    length-bytes (in_order b) ∙ ap (λ k. 4 + k * 9 + 10 + 4 + 13) (length_in_order b keeps)
+
+-- So an area of 85 bytes is filled with those of the book in rising order, and one of 84 bytes is refused under 18.
+pub filled-a : (area : List ℕ) → length area ≡ 85 → (r : Result ℕ Refusal) (new : List ℕ) → WritingOf (content 4 numbers_from_last numbers_of_sets) area r new
+    → (r ≡ Ok 85) × (new ≡ bytes-rising)
+filled-a area size r new w =
+    let x = content 4 numbers-rising numbers_of_sets in
+    let same-answer =
+    order-6.any_order 4 numbers_from_last numbers-rising numbers_of_sets same-a (inl (_, arcs_alone)) area r (length_written x area) new (area_after x area) w (refl, refl) in
+    let same-area =
+    order-6.any_order_bytes 4 numbers_from_last numbers-rising numbers_of_sets same-a area r (length_written x area) new (area_after x area) w (refl, refl) in
+    let (answer, front) =
+    order-6.any_read bytes-rising (with_arcs rising-a) are-bytes read-rising rises 4 numbers-rising numbers_of_sets says-rising area (omega (arith, size)) (length_written x area) (area_after x area) (refl, refl) in
+    let whole = order-6.written 4 numbers_from_last numbers_of_sets (with_arcs from_last) taken-a area (omega (arith, needs-85, size)) r new w in
+    (same-answer ∙ answer, sym (take_all 85 new (omega (arith, whole.same_length, size))) ∙ ap (λ l. take 85 l) same-area ∙ front)
+
+pub too_short-a : (area : List ℕ) → length area ≡ 84 → (r : Result ℕ Refusal) (new : List ℕ) → WritingOf (content 4 numbers_from_last numbers_of_sets) area r new
+    → ((x : Refusal) × (number_of x ≡ 18) × (r ≡ Err x)) × (new ≡ area)
+too_short-a area size r new w =
+    order-6.no_room 4 numbers_from_last numbers_of_sets (with_arcs from_last) taken-a area (omega (arith, needs-85, size)) r new w

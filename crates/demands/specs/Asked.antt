@@ -17,6 +17,7 @@ use Rattle.rules.specs.Operations.{bind_tests}
 use Rattle.walk_check.specs.Checking.{check_tests}
 use Rattle.planner.specs.Planning.{plan_tests}
 use Rattle.reach.specs.Reaching.{reach_tests}
+use Rattle.writing.specs.Writing.{bytes_in_order, write_tests}
 use Rattle.trial_record.specs.declared.Record.{Record}
 use Rattle.trial_rules.specs.Trials.{Report, passed, failed, State, standing, Valid as ValidState, begin_tests}
 use Rattle.judging.specs.Judging.{state_of, report_tests}
@@ -52,6 +53,10 @@ reach_conditions paths count start table b =
 abbrev pub begin_conditions : Batch → ℕ → ℕ → List ℕ → List ℕ → Book → List Condition
 begin_conditions batch start end paths walk b =
     asks 8 (area_size ≤ length paths) ∷ asks 8 (longest ≤ length walk) ∷ asks 7 (start < b.count) ∷ asks 7 (end < b.count) ∷ asks 15 (IsDate batch.date) ∷ []
+
+-- 18: an area not 'shorter than the exact bytes needed' (02, order 6).
+abbrev pub write_conditions : List ℕ → Book → List Condition
+write_conditions area b = asks 18 (length (bytes_in_order b) ≤ length area) ∷ []
 
 -- Of a named run. 16: it has 2 to 8 grades. 17: each is below the count. 12: it stands in the standing line-up. 13: there is room for one more known run.
 abbrev pub Sized : Report → Type 0
@@ -96,7 +101,7 @@ pub record Judges (r : Reading) (tests : Book → List Test) (conditions : Book 
   pub accepts : (refusal_of r tests ≡ none) ↔ Good r conditions
   pub refuses : (x : Refusal) → (refusal_of r tests ≡ some x) ↔ Cause r conditions x
 
--- Of what was read, from bytes or from a list.
+-- Of what was read, from bytes, from a list or from a content.
 pub record Conditions (r : Reading) : Type 0 where
   pub bind : (batch : Batch) (area : List ℕ) → Judges r (bind_tests batch area) (bind_conditions batch area)
   pub check : (area : List ℕ) (count : ℕ) (w : List ℕ) → Judges r (check_tests area count w) (check_conditions area count w)
@@ -104,3 +109,4 @@ pub record Conditions (r : Reading) : Type 0 where
   pub reach : (paths : List ℕ) (count start : ℕ) (table : List ℕ) → Judges r (reach_tests paths count start table) (reach_conditions paths count start table)
   pub begin : (batch : Batch) (start end : ℕ) (paths walk : List ℕ) → Judges r (λ b. begin_tests batch (graph b) start end paths walk) (begin_conditions batch start end paths walk)
   pub report : (q : Record) (paths walk : List ℕ) (ρ : Report) → Judges r (report_tests q paths walk ρ) (report_conditions q paths walk ρ)
+  pub write : (area : List ℕ) → Judges r (write_tests area) (write_conditions area)

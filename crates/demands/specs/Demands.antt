@@ -1,12 +1,12 @@
 -- The three demands (docs/RULES.md), sentence by sentence: each is a record with a part for each sentence, over the definitions that the contracts of the
--- operations name; and after the second demand what requests 1 to 5 add (02). A sentence that a comment has in quotation marks is the demand's, 02's in the part of a
+-- operations name; and after the second demand what requests 1 to 6 add (02). A sentence that a comment has in quotation marks is the demand's, 02's in the part of a
 -- request, or 01's where it says so. Theorems.antt proves them.
 use Rattle.std.specs.Prelude
-use Rattle.std.specs.Prelude.{ℕ, Bool, suc, ◌≤◌, ◌<◌, ◌+◌, ◌*◌, ◌≡◌, ◌⊎◌, ◌↔◌, ◌≢◌, true, false, length, drop, get_or, take, Option, Some, Result, Ok, Err}
+use Rattle.std.specs.Prelude.{ℕ, Bool, suc, ◌≤◌, ◌<◌, ◌+◌, ◌*◌, ◌≡◌, ◌⊎◌, ◌↔◌, ◌≢◌, true, false, map, length, drop, get_or, take, Option, Some, Result, Ok, Err}
 use Rattle.planner.specs.Planning.{walked, Answer as Outcome}
 use Rattle.trials.specs.Operations.{rejected}
 use Rattle.walk_check.specs.declared.Occurrence.{Occurrence}
-use mathlib.Core.List.{List, [], ◌∷◌, ◌++◌, Permᴰ, Memᴰ}
+use mathlib.Core.List.{List, [], ◌∷◌, ◌++◌, flat_map, Permᴰ, Memᴰ}
 use Rattle.std.proofs.Math.Option.{some}
 use Rattle.lists.specs.Distinct.{Distinct}
 use Rattle.limits.specs.Limits.{area_size, longest, longest_path, most_sets, most_paths}
@@ -15,7 +15,7 @@ use Rattle.dates.specs.declared.Date.{Date}
 use Rattle.dates.specs.declared.Window.{Window}
 use Rattle.dates.specs.Dates.{month_day, is_date}
 use Rattle.dates.specs.Calendar.{Months, LeapYear, IsDay, IsDate, Rising, Inside, InSeason, IsWindow, leap_day, day_after, Complements}
-use Rattle.walks.specs.Graph.{Graph}
+use Rattle.walks.specs.Graph.{Graph, Arc}
 use Rattle.walks.specs.Walk.{Walk, weight_of, hops}
 use Rattle.walks.specs.Avoid.{Occurs, Long, ◌⊆◌}
 use Rattle.walks.specs.Order.{Lex, ◌≼⟨◌⟩◌}
@@ -33,11 +33,18 @@ use Rattle.product.specs.Base.{base, targets}
 use Rattle.routes.specs.Plan.{Prepared}
 use Rattle.measuring.specs.Counted.{Counted}
 use Rattle.pass_counts.specs.Most.{most_from}
+use Rattle.book.specs.declared.Needs.{Needs}
 use Rattle.book.specs.declared.Refusal.{Refusal}
 use Rattle.book.specs.Refusal.{Test, number_of, place_of, refusals_in_order}
 use Rattle.book.specs.Book.{Book, counts, graph, RuleSet, All, all_paths}
 use Rattle.book.specs.Reading.{Reading, accepted, refused, reading, read_as, refusal_of}
 use Rattle.book_bytes.specs.Bytes.{AreBytes, bytes_of, ProperNeeds, Keeps, longest_book}
+use Rattle.content.specs.Content.{an_arc, a_set, a_path, cut, content}
+use Rattle.writing.specs.Rising.{Rising as RisingArcs}
+use Rattle.writing.specs.Contents.{set_list, book_items, arc_numbers, set_numbers, SetsSaid, Said, EndInArc, EndInSet, EndInPaths, CutArcs, CutSets, SameButOrder}
+use Rattle.writing.specs.Writing.{bytes_in_order, write_tests, length_written, area_after as written_after, WritingOf}
+use Rattle.rewriting.specs.Rewriting.{rewritten as rewrite}
+use Rattle.text.specs.Text.{refusal_text}
 use Rattle.rules.specs.Binding.{known}
 use Rattle.rules.specs.Area.{spelled, written}
 use Rattle.rules.specs.ValidLaws.{Valid}
@@ -48,7 +55,7 @@ use Rattle.planner.specs.RuleSets.{SameGraph, Reordered}
 use Rattle.ends.specs.Ends.{no_end, ends}
 use Rattle.ends.specs.Least.{entries}
 use Rattle.reach.specs.Reaching.{reach_tests, reached, table_after, Reaching}
-use Rattle.book.specs.declared.Arc.{Arc as Item}
+use Rattle.book.specs.declared.Arc.{Arc as Listed}
 use Rattle.rules.specs.declared.Batch.{Batch}
 use Rattle.listed.specs.Listing.{listing}
 use Rattle.listed.specs.SameBook.{arcs_of}
@@ -59,9 +66,9 @@ use Rattle.trials.specs.Operations.{first_state, beginning, reporting, answering
 use Rattle.series.specs.Reports.{reports_of}
 use Rattle.series.specs.Making.{replaying}
 use Rattle.series.specs.Whole.{leaves_of, reports_on}
-use Rattle.demands.specs.Conditions.{Condition}
-use Rattle.demands.specs.Asked.{plan_conditions, check_conditions, report_conditions, bind_conditions, reach_conditions, begin_conditions, Cause}
-use Rattle.demands.specs.Fields.{BadBook, BadList}
+use Rattle.demands.specs.Conditions.{Condition, AllHold}
+use Rattle.demands.specs.Asked.{plan_conditions, check_conditions, report_conditions, bind_conditions, reach_conditions, begin_conditions, write_conditions, Cause}
+use Rattle.demands.specs.Fields.{BadBook, BadList, count_conditions, BadFrom, BadContent}
 use Rattle.demands.specs.Marks.{Binds, OfSheet, Clear}
 use Rattle.demands.specs.Calls.{AcceptedBegin, opening, answer_on, accepted_on, standing_in, TrueReport, TrueLab, HowMany, LabsOnly, LabSet, Free}
 
@@ -88,7 +95,7 @@ pub record Answers (s : List ℕ) (b : Book) (batch : Batch) (start end : ℕ) (
   -- Planning under what binding left answers a line-up or none ...
   pub planned : GetsPlan (Planning s (area_after (binding s batch paths) paths) (length (known batch b.sets)) start end walk)
   -- ... and so does planning from the book's changeovers as a list, in any order.
-  pub planned_list : (n : ℕ) (xs : List Item) → n ≡ b.count → Permᴰ b.arcs (arcs_of xs)
+  pub planned_list : (n : ℕ) (xs : List Listed) → n ≡ b.count → Permᴰ b.arcs (arcs_of xs)
       → GetsPlan (PlanningOf (listing n xs) (area_after (binding s batch paths) paths) (length (known batch b.sets)) start end walk)
   -- The check of a line-up under what binding left answers that it is clear, or where a run stands.
   pub checked : (w : List ℕ) → length w ≤ longest → Walk (graph b) w
@@ -113,16 +120,17 @@ pub record Exactly (r : Reading) (tests : Book → List Test) (conditions : Book
 
 pub record Refusals (s : List ℕ) (x : Refusal) : Type 0 where
   -- 'Everything else gets its numbered refusal, under that refusal's stated condition and no other.'
-  -- A book, and a list of changeovers, is refused for its first bad field or item.
+  -- A book, a list of changeovers and a content is refused for its first bad field or item.
   pub read : (read_as (reading s) ≡ Err x) ↔ (reading s ≡ refused x)
   pub read-cause : (reading s ≡ refused x) ↔ BadBook s x
-  pub list_cause : (n : ℕ) (xs : List Item) → (listing n xs ≡ refused x) ↔ BadList n xs x
+  pub list_cause : (n : ℕ) (xs : List Listed) → (listing n xs ≡ refused x) ↔ BadList n xs x
+  pub content_cause : (n : ℕ) (arcs sets : List ℕ) → (content n arcs sets ≡ refused x) ↔ BadContent n arcs sets x
   pub bind : (batch : Batch) (area : List ℕ) → Exactly (reading s) (bind_tests batch area) (bind_conditions batch area) x (bound_as (binding s batch area) ≡ Err x)
   pub check : (area : List ℕ) (count : ℕ) (w : List ℕ)
       → Exactly (reading s) (check_tests area count w) (check_conditions area count w) x (checking s area count w ≡ Err x)
   pub plan : (paths : List ℕ) (count start end : ℕ) (old : List ℕ) (r : Outcome) (new : List ℕ) → Planning s paths count start end old r new
       → Exactly (reading s) (plan_tests paths count start end old) (plan_conditions paths count start end old) x (r ≡ Err x)
-  pub plan_list : (n : ℕ) (xs : List Item) (paths : List ℕ) (count start end : ℕ) (old : List ℕ) (r : Outcome) (new : List ℕ)
+  pub plan_list : (n : ℕ) (xs : List Listed) (paths : List ℕ) (count start end : ℕ) (old : List ℕ) (r : Outcome) (new : List ℕ)
       → PlanningOf (listing n xs) paths count start end old r new
       → Exactly (listing n xs) (plan_tests paths count start end old) (plan_conditions paths count start end old) x (r ≡ Err x)
   pub reach : (paths : List ℕ) (count start : ℕ) (table : List ℕ)
@@ -136,11 +144,14 @@ pub record Refusals (s : List ℕ) (x : Refusal) : Type 0 where
   pub report : (q : Record) (paths walk : List ℕ) (ρ : Report)
       → Exactly (reading s) (report_tests q paths walk ρ) (report_conditions q paths walk ρ) x
       ((q' : Record) × ((reporting s q paths walk ρ).answer ≡ Err (rejected x q')))
+  -- 02, order 6: 'It refuses with 18, after these, a lent area shorter than the exact bytes needed'.
+  pub write : (n : ℕ) (arcs sets area : List ℕ)
+      → Exactly (content n arcs sets) (write_tests area) (write_conditions area) x (length_written (content n arcs sets) area ≡ Err x)
   -- '.. and a refusal writes to no lent memory.' Reading and the check are lent none to write to. 01: it 'hands back as it came a record that the call took'.
   pub bind-keeps : (batch : Batch) (area : List ℕ) → bound_as (binding s batch area) ≡ Err x → area_after (binding s batch area) area ≡ area
   pub plan-keeps : (paths : List ℕ) (count start end : ℕ) (old : List ℕ) (r : Outcome) (new : List ℕ) → Planning s paths count start end old r new
       → r ≡ Err x → new ≡ old
-  pub plan_list_keeps : (n : ℕ) (xs : List Item) (paths : List ℕ) (count start end : ℕ) (old : List ℕ) (r : Outcome) (new : List ℕ)
+  pub plan_list_keeps : (n : ℕ) (xs : List Listed) (paths : List ℕ) (count start end : ℕ) (old : List ℕ) (r : Outcome) (new : List ℕ)
       → PlanningOf (listing n xs) paths count start end old r new → r ≡ Err x → new ≡ old
   pub reach-keeps : (paths : List ℕ) (count start : ℕ) (table : List ℕ) → reached (reading s) paths count start table ≡ Err x
       → table_after (reading s) paths count start table ≡ table
@@ -150,6 +161,7 @@ pub record Refusals (s : List ℕ) (x : Refusal) : Type 0 where
       → replaying s batch start end reports paths walk ≡ answering (Err x) paths walk
   pub report-keeps : (q : Record) (paths walk : List ℕ) (ρ : Report) → (q' : Record) × ((reporting s q paths walk ρ).answer ≡ Err (rejected x q'))
       → reporting s q paths walk ρ ≡ answering (Err (rejected x q)) paths walk
+  pub write-keeps : (n : ℕ) (arcs sets area : List ℕ) → length_written (content n arcs sets) area ≡ Err x → written_after (content n arcs sets) area ≡ area
 
 -- ---- the demand
 pub record Demand1 : Type 0 where
@@ -220,7 +232,7 @@ pub record BatchPlans (s : List ℕ) (b : Book) (batch : Batch) (area : List ℕ
   -- What it is.
   pub plans : (r : Outcome) (new : List ℕ) → Planning s (area_after (binding s batch area) area) known' start end old r new → Plans b batch start end old r new
   -- So is a plan from the book's changeovers as a list.
-  pub plans_list : (n : ℕ) (xs : List Item) → n ≡ b.count → Permᴰ b.arcs (arcs_of xs) → (r : Outcome) (new : List ℕ)
+  pub plans_list : (n : ℕ) (xs : List Listed) → n ≡ b.count → Permᴰ b.arcs (arcs_of xs) → (r : Outcome) (new : List ℕ)
       → PlanningOf (listing n xs) (area_after (binding s batch area) area) known' start end old r new → Plans b batch start end old r new
   -- 01: 'A sheet that needs 0 binds every batch.' 02: if it has no window.
   pub needs_0 : (set : RuleSet) → set.needs.flags ≡ 0 → set.needs.window ≡ Prelude.None → Binds set batch
@@ -525,6 +537,92 @@ pub record Order5 : Type 0 where
   -- 11 comes before all of them: after the trials it is told of any run.
   pub over : (s : List ℕ) (b : Book) → reading s ≡ accepted b → (q : Record) (paths walk : List ℕ) → InOrder b q paths walk → q.stage ≢ 0
       → (r : List ℕ) → RefusedUnder 11 s q paths walk r
+
+-- ==== Writing books (02, order 6)
+-- 'From a count of grades, changeovers and sheets with their windows and runs', in numbers: they say the content of b where the count is b's, and the others are
+-- the numbers of its changeovers and of its sheets, each with its window and its runs (`Said`, which is told with no parser).
+abbrev pub Says : ℕ → List ℕ → List ℕ → Book → Type 0
+Says n arcs sets b = (n ≡ b.count) × Said b arcs sets
+
+-- 'the book is written with changeovers in rising order of from, then to, sheets and runs as given'
+pub record InRisingOrder (b written : Book) : Type 0 where
+  pub count_is : written.count ≡ b.count
+  pub sets_are : written.sets ≡ b.sets
+  pub rising : RisingArcs written.arcs
+  pub permuted : Permᴰ b.arcs written.arcs
+
+-- What is answered and left in the area where numbers say b and are taken.
+pub record BookWritten (b : Book) (area : List ℕ) (r : Result ℕ Refusal) (new : List ℕ) : Type 0 where
+  pub written : Book
+  pub ordered : InRisingOrder b written
+  -- '.. a sheet without a window in the short form' (`bytes_of`). 'The answer is the book's length, and bytes after it are untouched.'
+  pub answer : r ≡ Ok (length (bytes_of written))
+  pub bytes : take (length (bytes_of written)) new ≡ bytes_of written
+  pub untouched : drop (length (bytes_of written)) new ≡ drop (length (bytes_of written)) area
+  pub same_length : length new ≡ length area
+  -- 'Reading it yields the same content with the changeovers so ordered.'
+  pub read : reading (take (length (bytes_of written)) new) ≡ accepted written
+  -- Order 4: the longest book.
+  pub no_longer : length (bytes_of written) ≤ longest_book
+
+-- What the program `rewrite` writes for the bytes of a book b.
+pub record Anew (b : Book) (new : List ℕ) : Type 0 where
+  pub written : Book
+  pub ordered : InRisingOrder b written
+  pub bytes : new ≡ bytes_of written
+  pub read : reading new ≡ accepted written
+
+pub record Order6 : Type 0 where
+  -- Of the refusals of a content, with their indices, and of 18, demand 1 has parts (`refusals`: `content_cause`, `write` and `write-keeps`). Numbers are taken where
+  -- they say a book that keeps the rules, and just there.
+  pub taken : (n : ℕ) (arcs sets : List ℕ) (b : Book) → (content n arcs sets ≡ accepted b) ↔ (Keeps b × Says n arcs sets b)
+  -- Every book is said by numbers, a bad one too; those of a book that keeps the rules have 32 bits.
+  pub every_book : (b : Book) → Says b.count (flat_map arc_numbers b.arcs) (flat_map set_numbers b.sets) b
+  pub in_32_bits : (b : Book) → Keeps b → All (λ x. x < 4294967296) (flat_map arc_numbers b.arcs) × All (λ x. x < 4294967296) (flat_map set_numbers b.sets)
+  -- 'Content is checked in the order count, changeovers as given, sheets each followed by its runs, and the first bad item decides.' So it is of every book that numbers
+  -- say, a 17th sheet and a 257th run of it too ...
+  pub whole : (n : ℕ) (arcs sets : List ℕ) (b : Book) → Says n arcs sets b → (x : Refusal) → (content n arcs sets ≡ refused x) ↔ BadFrom 1 n (book_items b) x
+  -- ... and of numbers that end within a changeover, whatever the sheets' are, within a sheet, or within its runs: there is one item more, and it is bad (3).
+  pub cut_changeover : (n : ℕ) (given : List Arc) (rest sets : List ℕ) → EndInArc rest
+      → (x : Refusal) → (content n (flat_map arc_numbers given ++ rest) sets ≡ refused x) ↔ BadFrom 1 n (map an_arc given ++ (cut ∷ [])) x
+  pub cut_sheet : (n : ℕ) (given : List Arc) (ss : List RuleSet) (front rest : List ℕ) → SetsSaid ss front → EndInSet rest
+      → (x : Refusal) → (content n (flat_map arc_numbers given) (front ++ rest) ≡ refused x) ↔ BadFrom 1 n (map an_arc given ++ (flat_map set_list ss ++ (cut ∷ []))) x
+  pub cut_run : (n : ℕ) (given : List Arc) (ss : List RuleSet) (front rest : List ℕ) → SetsSaid ss front → (f : Needs) (runs : List (List ℕ)) → EndInPaths f runs rest
+      → (x : Refusal)
+      → (content n (flat_map arc_numbers given) (front ++ rest) ≡ refused x)
+      ↔ BadFrom 1 n (map an_arc given ++ (flat_map set_list ss ++ (a_set f ∷ (map a_path runs ++ (cut ∷ []))))) x
+  -- There are no other numbers, and none say two books.
+  pub no_others : (n : ℕ) (arcs sets : List ℕ)
+      → ((b : Book) × Says n arcs sets b) ⊎ CutArcs arcs ⊎ (((given : List Arc) × (arcs ≡ flat_map arc_numbers given)) × CutSets sets)
+  pub one_book : (n : ℕ) (arcs sets : List ℕ) (b c : Book) → Says n arcs sets b → Says n arcs sets c → b ≡ c
+  -- What is taken is written in every area that has the room.
+  pub written : (n : ℕ) (arcs sets : List ℕ) (b : Book) → content n arcs sets ≡ accepted b → (area : List ℕ) → length (bytes_in_order b) ≤ length area
+      → (r : Result ℕ Refusal) (new : List ℕ) → WritingOf (content n arcs sets) area r new → BookWritten b area r new
+  -- 'It refuses with 18, after these, a lent area shorter than the exact bytes needed, and writes nothing.'
+  pub no_room : (n : ℕ) (arcs sets : List ℕ) (b : Book) → content n arcs sets ≡ accepted b → (area : List ℕ) → length area < length (bytes_in_order b)
+      → (r : Result ℕ Refusal) (new : List ℕ) → WritingOf (content n arcs sets) area r new → ((x : Refusal) × (number_of x ≡ 18) × (r ≡ Err x)) × (new ≡ area)
+  -- 'Two contents that differ only in the order of changeovers give equal bytes': the area is left the same, whatever they are ...
+  pub any_order_bytes : (n : ℕ) (arcs arcs' sets : List ℕ) → SameButOrder arcs arcs' → (area : List ℕ)
+      → (r r' : Result ℕ Refusal) (new new' : List ℕ) → WritingOf (content n arcs sets) area r new → WritingOf (content n arcs' sets) area r' new' → new ≡ new'
+  -- ... and they give equal answers, 18 too, and what is refused of the sheets and runs, where the changeovers are good, or the count is bad.
+  pub any_order : (n : ℕ) (arcs arcs' sets : List ℕ) → SameButOrder arcs arcs'
+      → ((c : Book) × (content n arcs [] ≡ accepted c)) ⊎ (AllHold (count_conditions n) → ⊥) → (area : List ℕ)
+      → (r r' : Result ℕ Refusal) (new new' : List ℕ) → WritingOf (content n arcs sets) area r new → WritingOf (content n arcs' sets) area r' new' → r ≡ r'
+  -- Where they are not, the first bad one may be another: a content is refused in every order, if in one.
+  pub bad_in_any_order : (n : ℕ) (arcs arcs' sets : List ℕ) → SameButOrder arcs arcs' → (x : Refusal) → content n arcs sets ≡ refused x
+      → (y : Refusal) × (content n arcs' sets ≡ refused y)
+  -- Every book that can be read, and has its changeovers in rising order, is what is written of its own content, to the byte.
+  pub any_read : (s : List ℕ) (b : Book) → AreBytes s → reading s ≡ accepted b → RisingArcs b.arcs → (n : ℕ) (arcs sets : List ℕ) → Says n arcs sets b
+      → (area : List ℕ) → length s ≤ length area → (r : Result ℕ Refusal) (new : List ℕ) → WritingOf (content n arcs sets) area r new
+      → (r ≡ Ok (length s)) × (take (length s) new ≡ s)
+  -- The program `rewrite` writes a book that it reads with the changeovers in rising order, in the bytes that writing its content gives; else the line of the refusal.
+  -- A book whose changeovers rise comes back as it is.
+  pub rewritten : (s : List ℕ) (b : Book) → AreBytes s → reading s ≡ accepted b → Anew b (rewrite s)
+  pub rewritten_as_written : (s : List ℕ) (b : Book) → AreBytes s → reading s ≡ accepted b → (n : ℕ) (arcs sets : List ℕ) → Says n arcs sets b
+      → (area : List ℕ) → length (rewrite s) ≤ length area → (r : Result ℕ Refusal) (new : List ℕ) → WritingOf (content n arcs sets) area r new
+      → (r ≡ Ok (length (rewrite s))) × (take (length (rewrite s)) new ≡ rewrite s)
+  pub rewritten_as_it_is : (s : List ℕ) (b : Book) → AreBytes s → reading s ≡ accepted b → RisingArcs b.arcs → rewrite s ≡ s
+  pub rewritten-refused : (s : List ℕ) (x : Refusal) → reading s ≡ refused x → rewrite s ≡ refusal_text x
 
 -- ==== Demand 3
 -- After an accepted begin β the reports ρs were made, each on what the one before it left. `done` are those that were answered with

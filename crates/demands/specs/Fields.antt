@@ -1,7 +1,8 @@
 -- 01, 'Who can cause a refusal', of the book's maker: 1 to 6, and 14 of 02, in words, field by field. 'The first bad field decides', and 'refusals 1 to 6 carry the
--- byte at which the field starts', as 14 does. Likewise 4 and 5 of a list of arcs, with the item's index. And that reading decides just this.
+-- byte at which the field starts', as 14 does. Likewise, with the item's index, of the items of a content (02, order 6): 3, 4, 14, 5, 6; and of a list of arcs: 4, 5. And
+-- that reading decides just this.
 use Prim.Native.Nat.{ℕ, suc, ◌+◌, ◌≤◌, ◌<◌}
-use Rattle.std.specs.Prelude.{◌≡◌, ◌⊎◌, length, Option, Some, None}
+use Rattle.std.specs.Prelude.{◌≡◌, ◌⊎◌, map, length, Option, Some, None}
 use mathlib.Core.List.{List, [], ◌∷◌, ◌++◌, Memᴰ}
 use Rattle.limits.specs.Limits.{most_vertices, most_sets, most_paths, longest_path}
 use Rattle.dates.specs.declared.Window.{Window}
@@ -12,9 +13,10 @@ use Rattle.book.specs.declared.Kind.TheVariants.{VertexCount, Path}
 use Rattle.book.specs.declared.Refusal.{Refusal}
 use Rattle.book.specs.Refusal.{Test}
 use Rattle.book.specs.Book.{Book, All, IsArc, blank, all_paths}
-use Rattle.book.specs.Reading.{framing, content, extended, kind_at, length_at, end_at, count_at, arc_at, window_at, path_at, add_arc}
-use Rattle.book.specs.declared.Arc.{Arc as Item}
+use Rattle.book.specs.Reading.{framing, content, extended, kind_at, length_at, end_at, count_at, arc_at, window_at, path_at}
+use Rattle.book.specs.declared.Arc.{Arc as Listed}
 use Rattle.listed.specs.Listing.{arc_of}
+use Rattle.content.specs.Content.{Item, an_arc, a_set, a_path, cut, items, add_item}
 use Rattle.demands.specs.Conditions.{Condition, asks, AllHold, HasNumber, FirstFails}
 
 -- ---- the conditions of a field, after the book b that the fields before it make
@@ -92,22 +94,43 @@ pub data BadField (s : List ℕ) : Book → ℕ → Refusal → Type 0 where
 abbrev pub BadBook : List ℕ → Refusal → Type 0
 BadBook s x = ((s ≡ []) × HasNumber x 1 0) ⊎ BadField s blank 0 x
 
--- The same of a list of arcs with its count: 'refusals 4 and 5 then give the item's index from 0; a bad count is 4 with index 0, before any item'.
+-- ---- a content
+-- 4: a count of 1 to 64.
 abbrev pub count_conditions : ℕ → List Condition
 count_conditions n = asks 4 ((1 ≤ n) × (n ≤ most_vertices)) ∷ []
 
-abbrev pub item_conditions : Book → Arc → List Condition
-item_conditions b a = asks 4 (IsArc b.count a) ∷ asks 5 (New b.arcs a) ∷ []
+-- What is asked of an item, after the book b that the items before it make: of an arc 4 and 5, as of its field; of a rule set 4, flags of 16 bits, 14 and 6; of a path 3
+-- ('a run of under 2 or over 8 grades'), 4 and 6. Numbers that end before their item does are 3.
+abbrev pub item_conditions : Book → Item → List Condition
+item_conditions b (an_arc a) = asks 4 (IsArc b.count a) ∷ asks 5 (New b.arcs a) ∷ []
+item_conditions b (a_set f) =
+    asks 4 (f.flags < 65536) ∷ asks 14 ((w : Window) → f.window ≡ Some w → IsWindow w) ∷ asks 6 (length b.sets < most_sets) ∷ []
+item_conditions b (a_path p) =
+    asks 3 ((2 ≤ length p) × (length p ≤ longest_path)) ∷ asks 4 (All (λ v. v < b.count) p) ∷ asks 6 (length (all_paths b.sets) < most_paths) ∷ []
+item_conditions b cut = asks 3 ⊥ ∷ []
 
+-- From an index on, after a book: a bad item, or a good one and a bad one after it: 'the first bad item decides'.
 pub data BadItem : ℕ → List Item → Book → Refusal → Type 0 where
-  bad_item : {i : ℕ} {a : Item} {xs : List Item} {b : Book} {x : Refusal} → FirstFails i (item_conditions b (arc_of a)) x → BadItem i (a ∷ xs) b x
-  good_item : {i : ℕ} {a : Item} {xs : List Item} {b : Book} {x : Refusal} → AllHold (item_conditions b (arc_of a)) → BadItem (suc i) xs (add_arc b (arc_of a)) x → BadItem i (a ∷ xs) b x
+  bad_item : {i : ℕ} {y : Item} {xs : List Item} {b : Book} {x : Refusal} → FirstFails i (item_conditions b y) x → BadItem i (y ∷ xs) b x
+  good_item : {i : ℕ} {y : Item} {xs : List Item} {b : Book} {x : Refusal} → AllHold (item_conditions b y) → BadItem (suc i) xs (add_item b y) x → BadItem i (y ∷ xs) b x
 
-abbrev pub with_count : ℕ → Book
-with_count n = record { count = n; arcs = []; sets = [] }
+abbrev pub counted_book : ℕ → Book
+counted_book n = record { count = n; arcs = []; sets = [] }
 
-abbrev pub BadList : ℕ → List Item → Refusal → Type 0
-BadList n xs x = FirstFails 0 (count_conditions n) x ⊎ (AllHold (count_conditions n) × BadItem 0 xs (with_count n) x)
+-- The count, with index 0, comes before any item; then the items, the first of which has index i.
+abbrev pub BadFrom : ℕ → ℕ → List Item → Refusal → Type 0
+BadFrom i n xs x = FirstFails 0 (count_conditions n) x ⊎ (AllHold (count_conditions n) × BadItem i xs (counted_book n) x)
+
+-- 'Content is checked in the order count, changeovers as given, sheets each followed by its runs, .. with the item's index in that order, the count being 0'.
+abbrev pub BadContent : ℕ → List ℕ → List ℕ → Refusal → Type 0
+BadContent n arcs sets x = BadFrom 1 n (items arcs sets) x
+
+-- The same of a list of arcs with its count: 'refusals 4 and 5 then give the item's index from 0; a bad count is 4 with index 0, before any item'.
+abbrev pub listed_items : List Listed → List Item
+listed_items xs = map (λ a. an_arc (arc_of a)) xs
+
+abbrev pub BadList : ℕ → List Listed → Refusal → Type 0
+BadList n xs x = BadFrom 0 n (listed_items xs) x
 
 -- ---- a field
 abbrev pub field_tests : List ℕ → Book → ℕ → List Test

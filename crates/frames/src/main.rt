@@ -19,6 +19,8 @@ enum Kind {
     Board,
     Table,
     Passes,
+    Rewrite,
+    Write,
 }
 
 // A first byte that says no kind.
@@ -43,6 +45,8 @@ impl TryFrom<u8> for Kind {
             10 => Ok(Kind::Board),
             11 => Ok(Kind::Table),
             13 => Ok(Kind::Passes),
+            14 => Ok(Kind::Rewrite),
+            15 => Ok(Kind::Write),
             // 12 says none: stored frames hold it as a byte that says no kind.
             _ => Err(UnknownKind),
         }
@@ -73,6 +77,8 @@ fn framed_case(rt: &impl Print, frame: &[u8]) {
         Ok(Kind::Board) => table_cases::board_case(rt, input),
         Ok(Kind::Table) => table_cases::table_case(rt, input),
         Ok(Kind::Passes) => pass_cases::passes_case(rt, input),
+        Ok(Kind::Rewrite) => write_cases::rewrite_case(rt, input),
+        Ok(Kind::Write) => write_cases::write_case(rt, input),
         Err(UnknownKind) => println!(rt; "UNKNOWN KIND").unwrap_or(()),
     }
 }

@@ -1,26 +1,21 @@
 -- The laws of what specs/SameBook.antt defines.
-use Rattle.std.specs.Prelude.{ℕ, suc, ◌≡◌, true, false, cond, not, ◌&&◌, leb}
+use Rattle.std.specs.Prelude.{ℕ, suc, ◌≡◌, true, cond, ◌&&◌, leb}
 use Rattle.std.proofs.Common.{sym, ap, ap₂, subst, ◌∙◌, le-leb}
 use mathlib.Core.List.{List, [], ◌∷◌, ◌++◌, append_assoc, append-nil, Permᴰ}
 use Rattle.std.proofs.Math.Option.{none, some}
 use Rattle.limits.specs.Limits.{most_vertices}
-use Rattle.walks.specs.Graph.{Arc}
-use Rattle.book.specs.declared.Refusal.TheVariants.{Value, Repeated}
+use Rattle.book.specs.declared.Refusal.TheVariants.{Value}
 use Rattle.book.specs.Refusal.{refusal_by}
-use Rattle.book.specs.Book.{Book, All, IsArc, PairsOnce, given, graph}
-use Rattle.book.proofs.BookLaws.{reading-is-book, arc-passes, not-before}
-use Rattle.book.specs.Reading.{accepted, and_then, outcome, reading, add_arc, with_arc}
+use Rattle.book.specs.Book.{Book, All, IsArc, PairsOnce, graph}
+use Rattle.book.proofs.BookLaws.{reading-is-book, arc-taken, not-before}
+use Rattle.book.specs.Reading.{accepted, and_then, outcome, reading, add_arc}
 use Rattle.rules.specs.Area.{spelled}
 use Rattle.planner.specs.Planning.{plan_tests, Answer, Planned, PlanningOf, Planning}
 use Rattle.planner.proofs.RuleSets.{planned-same}
 use Rattle.book.specs.declared.Arc.{Arc as Item}
 use Rattle.listed.specs.Listing.{arc_of, items, listing}
-use Rattle.listed.specs.Reordered.{all_reordered, pairs_reordered, graph_reordered}
+use Rattle.book.proofs.Reordered.{all_reordered, pairs_reordered, graph_reordered}
 use Rattle.listed.specs.SameBook.{arcs_of, more}
-
-good_item : (b : Book) (i : ℕ) (a : Arc) → IsArc b.count a → given b.arcs a.tail a.head ≡ false → with_arc b i a ≡ accepted (add_arc b a)
-good_item b i a is new =
-    ap₂ (λ x y. outcome (cond x (cond (not y) none (some (Repeated i))) (some (Value i))) (add_arc b a)) (arc-passes b.count a is) new
 
 good-items : (b : Book) (i : ℕ) (xs : List Item) → All (IsArc b.count) (arcs_of xs) → PairsOnce (b.arcs ++ arcs_of xs)
     → items i xs b ≡ accepted (more b (arcs_of xs))
@@ -28,7 +23,7 @@ unfolding items
 good-items b i [] proper once = ap (λ l. accepted (record { count = b.count; arcs = l; sets = b.sets })) (sym (append-nil b.arcs))
 good-items b i (x ∷ xs) proper once =
     let joined : (b.arcs ++ (arc_of x ∷ [])) ++ arcs_of xs ≡ b.arcs ++ (arc_of x ∷ arcs_of xs) = append_assoc b.arcs (arc_of x ∷ []) (arcs_of xs) in
-    ap (λ r. and_then r (items (suc i) xs)) (good_item b i (arc_of x) proper.0 (not-before b.arcs (arc_of x) (arcs_of xs) once))
+    ap (λ r. and_then r (items (suc i) xs)) (arc-taken b i (arc_of x) proper.0 (not-before b.arcs (arc_of x) (arcs_of xs) once))
     ∙ good-items (add_arc b (arc_of x)) (suc i) xs proper.1 (subst PairsOnce (sym joined) once)
     ∙ ap (λ l. accepted (record { count = b.count; arcs = l; sets = b.sets })) joined
 

@@ -1,20 +1,15 @@
 -- The reading of a count and a list of arcs (01: the changeovers as a list of from, to and litres, with the count of grades) as a book
 -- without rule sets. A refusal carries the item's index, from 0.
-use Rattle.std.specs.Prelude.{ℕ, suc, ◌&&◌, List, [], ◌∷◌, leb}
-use Rattle.limits.specs.Limits.{most_vertices}
-use Rattle.book.specs.Refusal.{Test, test_at, first_failure}
-use Rattle.book.specs.Book.{Book}
+use Rattle.std.specs.Prelude.{ℕ, suc, List, [], ◌∷◌}
+use Rattle.book.specs.Book.{Book, blank}
 use Rattle.book.specs.declared.Arc.{Arc as Item}
-use Rattle.book.specs.Reading.{Reading, accepted, and_then, outcome, with_arc}
+use Rattle.book.specs.Reading.{Reading, accepted, and_then, with_count, with_arc}
 -- the arc of an item
 pub use Rattle.book.specs.Reading.{arc_of}
 
--- 4: the count of vertices is within its limits; this comes before any item
-abbrev pub counting : ℕ → List Test
-counting n = test_at 0 4 (leb 1 n && leb n most_vertices) ∷ []
-
+-- the count of vertices; this comes before any item
 abbrev pub counted : ℕ → Reading
-counted n = outcome (first_failure (counting n)) (record { count = n; arcs = []; sets = [] })
+counted n = with_count blank 0 n
 
 -- the items from index i on, after a book; the first bad one decides
 unfoldable pub items : ℕ → List Item → Book → Reading

@@ -11,6 +11,9 @@ pub const MOST_RUNS: usize = 256;
 pub const SHORTEST_RUN: usize = 2;
 pub const LONGEST_RUN: usize = 8;
 
+/// The bytes of the longest book.
+pub const LONGEST_BOOK: usize = 39_252;
+
 pub const TAG_COUNT: u8 = 0x01;
 pub const TAG_CHANGEOVER: u8 = 0x02;
 pub const TAG_SHEET: u8 = 0x03;
@@ -36,6 +39,11 @@ pub struct Book {
 }
 
 impl Book {
+    /// Nothing but a count of grades; refusal 4 for a bad one.
+    pub fn new(grades: usize) -> Result<Book, u8> {
+        Ok(Book { changeovers: Changeovers::new(grades)?, sheets: Vec::new() })
+    }
+
     pub fn grades(&self) -> usize {
         self.changeovers.grades()
     }
@@ -43,6 +51,28 @@ impl Book {
     /// The runs of all sheets, repeated ones counted each time.
     pub fn runs(&self) -> usize {
         self.sheets.iter().map(|sheet| sheet.runs.len()).sum()
+    }
+
+    pub fn add_sheet(&mut self, sheet: Sheet) -> Result<(), u8> {
+        if self.sheets.len() == MOST_SHEETS {
+            return Err(6);
+        }
+        self.sheets.push(sheet);
+        Ok(())
+    }
+
+    /// A run of the last sheet, its length good.
+    pub fn add_run(&mut self, run: &[u8]) -> Result<(), u8> {
+        if !run_has_good_grades(run, self.grades()) {
+            return Err(4);
+        }
+        if self.runs() == MOST_RUNS {
+            return Err(6);
+        }
+        if let Some(sheet) = self.sheets.last_mut() {
+            sheet.runs.push(run.to_vec());
+        }
+        Ok(())
     }
 }
 
@@ -78,7 +108,7 @@ fn read_field(rest: &[u8], book: &mut Option<Book>) -> Result<usize, u8> {
     }
     let body = &rest[HEAD..HEAD + length];
     match book {
-        None => *book = Some(start_book(body)?),
+        None => *book = Some(Book::new(body[0].into())?),
         Some(book) => extend_book(book, tag, body)?,
     }
     Ok(HEAD + length)
@@ -104,16 +134,11 @@ fn tag_has_length(tag: u8, length: usize) -> bool {
     }
 }
 
-fn start_book(body: &[u8]) -> Result<Book, u8> {
-    let changeovers = Changeovers::new(usize::from(body[0]))?;
-    Ok(Book { changeovers, sheets: Vec::new() })
-}
-
 fn extend_book(book: &mut Book, tag: u8, body: &[u8]) -> Result<(), u8> {
     match tag {
         TAG_CHANGEOVER => book.changeovers.add(changeover(body)),
-        TAG_SHEET => add_sheet(book, sheet(body)?),
-        _ => add_run(book, body),
+        TAG_SHEET => book.add_sheet(sheet(body)?),
+        _ => book.add_run(body),
     }
 }
 
@@ -135,25 +160,8 @@ fn sheet(body: &[u8]) -> Result<Sheet, u8> {
     Ok(Sheet { marks: u16::from_be_bytes([body[0], body[1]]), window, runs: Vec::new() })
 }
 
-fn add_sheet(book: &mut Book, sheet: Sheet) -> Result<(), u8> {
-    if book.sheets.len() == MOST_SHEETS {
-        return Err(6);
-    }
-    book.sheets.push(sheet);
-    Ok(())
-}
-
-fn add_run(book: &mut Book, run: &[u8]) -> Result<(), u8> {
-    if !run_has_good_grades(run, book.grades()) {
-        return Err(4);
-    }
-    if book.runs() == MOST_RUNS {
-        return Err(6);
-    }
-    if let Some(sheet) = book.sheets.last_mut() {
-        sheet.runs.push(run.to_vec());
-    }
-    Ok(())
+pub fn run_has_good_length(run: &[u8]) -> bool {
+    tag_has_length(TAG_RUN, run.len())
 }
 
 pub fn run_has_good_grades(run: &[u8], grades: usize) -> bool {
@@ -162,5 +170,5 @@ pub fn run_has_good_grades(run: &[u8], grades: usize) -> bool {
 
 /// Whether the book's rules for runs would take this list of grades.
 pub fn is_run(run: &[u8], grades: usize) -> bool {
-    tag_has_length(TAG_RUN, run.len()) && run_has_good_grades(run, grades)
+    run_has_good_length(run) && run_has_good_grades(run, grades)
 }

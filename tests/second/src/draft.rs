@@ -46,6 +46,17 @@ impl Draft {
         Draft::default().count(grades)
     }
 
+    /// The fields of a book, whatever they say; nothing if the last one is cut short.
+    pub fn split(mut bytes: &[u8]) -> Option<Draft> {
+        let mut draft = Draft::default();
+        while let [tag, high, low, rest @ ..] = bytes {
+            let length = usize::from(u16::from_be_bytes([*high, *low]));
+            draft = draft.field(*tag, rest.get(..length)?);
+            bytes = &rest[length..];
+        }
+        bytes.is_empty().then_some(draft)
+    }
+
     pub fn field(mut self, tag: u8, body: &[u8]) -> Draft {
         self.fields.push(Field::new(tag, body));
         self

@@ -5,6 +5,7 @@ use crate::binding::{Batch, ENTRY};
 use crate::book::{self, Book, Run, LONGEST_RUN};
 use crate::changeovers::Changeover;
 use crate::check;
+use crate::content_inputs;
 use crate::damage::damaged;
 use crate::dates::Date;
 use crate::draft::Draft;
@@ -32,6 +33,8 @@ pub fn case(kind: Kind, seed: u64, index: u64) -> Vec<u8> {
         Kind::Board => board_case(random),
         Kind::AnyTable => table_inputs::case(random),
         Kind::Passes => pass_inputs::case(random),
+        Kind::Rewrite => content_inputs::book(random),
+        Kind::WriteBook => content_inputs::case(random),
     }
 }
 

@@ -1,8 +1,10 @@
 //! The kinds of cases, by the names that commands use and by the bytes of frames.
 
 use crate::calls::{self, Call};
+use crate::contents;
 use crate::programs;
 use crate::tables;
+use crate::text;
 
 #[derive(Clone, Copy, Debug, PartialEq, Eq)]
 pub enum Kind {
@@ -16,9 +18,13 @@ pub enum Kind {
     /// One call that fills a table, with areas of any length and content.
     AnyTable,
     Passes,
+    /// One book, written anew.
+    Rewrite,
+    /// One content, and the length of an area.
+    WriteBook,
 }
 
-pub const KINDS: [Kind; 13] = [
+pub const KINDS: [Kind; 15] = [
     Kind::ReadBook,
     Kind::CheckLineup,
     Kind::Replay,
@@ -32,6 +38,8 @@ pub const KINDS: [Kind; 13] = [
     Kind::Board,
     Kind::AnyTable,
     Kind::Passes,
+    Kind::Rewrite,
+    Kind::WriteBook,
 ];
 
 impl Kind {
@@ -51,6 +59,8 @@ impl Kind {
             Kind::Board => "board",
             Kind::AnyTable => "any_table",
             Kind::Passes => "passes",
+            Kind::Rewrite => "rewrite",
+            Kind::WriteBook => "write_book",
         }
     }
 
@@ -80,6 +90,8 @@ impl Kind {
             Kind::Board => 10,
             Kind::AnyTable => 11,
             Kind::Passes => 13,
+            Kind::Rewrite => 14,
+            Kind::WriteBook => 15,
         }
     }
 
@@ -95,7 +107,18 @@ impl Kind {
         KINDS.into_iter().find(|kind| kind.stream_name() == name)
     }
 
-    /// What the program prints for one case.
+    /// What the kind's own program prints for one case: `rewrite` the bytes of a book as
+    /// they are, which a stream has in hexadecimal.
+    pub fn output(self, case: &[u8]) -> Vec<u8> {
+        match self {
+            Kind::Rewrite => {
+                programs::rewrite(case).unwrap_or_else(|refused| text::refusal(refused).into())
+            }
+            _ => self.run(case).into(),
+        }
+    }
+
+    /// What a framed stream prints for one case.
     pub fn run(self, case: &[u8]) -> String {
         match self {
             Kind::ReadBook => programs::read_book(case),
@@ -106,6 +129,10 @@ impl Kind {
             Kind::Board => programs::board(case),
             Kind::AnyTable => tables::run(case),
             Kind::Passes => programs::passes(case),
+            Kind::Rewrite => {
+                programs::rewrite(case).map_or_else(text::refusal, |book| text::written(&book))
+            }
+            Kind::WriteBook => contents::run(case),
         }
     }
 }

@@ -1,7 +1,7 @@
-//! Inputs of `plan` and `board` at the limits of length.
+//! Inputs of `plan`, `board` and `rewrite` at the limits of length.
 
 use crate::binding::Batch;
-use crate::book::{Run, LONGEST_RUN};
+use crate::book::{Run, LONGEST_BOOK, LONGEST_RUN};
 use crate::changeovers::{Changeover, MOST_GRADES};
 use crate::damage::damaged;
 use crate::draft::Draft;
@@ -12,8 +12,7 @@ use crate::random::Random;
 use crate::samples;
 use crate::seasons;
 
-/// The bytes of the longest book, and of the longest inputs that are not refused.
-pub const LONGEST_BOOK: usize = 39_252;
+/// The bytes of the longest inputs that are not refused.
 pub const LONGEST_INPUT: usize = 8 + LONGEST_BOOK;
 pub const LONGEST_BOARD: usize = 7 + LONGEST_BOOK;
 
@@ -117,6 +116,20 @@ pub fn long_board(random: &mut Random, index: u64) -> Vec<u8> {
         _ => largest_board(random),
     };
     filled(random, input, length)
+}
+
+/// The same for books by themselves.
+pub fn long_book(random: &mut Random, index: u64) -> Vec<u8> {
+    let length = long(LONGEST_BOOK, index);
+    let draft = largest_book(random);
+    let draft = seasons::all_with_windows(random, draft);
+    let book = match random.below(8) {
+        _ if length == LONGEST_BOOK => draft.bytes(),
+        0 => generate::tiny(random).bytes(),
+        1 => damaged(random, &draft),
+        _ => draft.bytes(),
+    };
+    filled(random, book, length)
 }
 
 fn filled(random: &mut Random, mut input: Vec<u8>, length: usize) -> Vec<u8> {

@@ -1,11 +1,13 @@
-//! A second fuel-sequence planner, written from paper 01 and orders 1 to 5 of paper 02
+//! A second fuel-sequence planner, written from paper 01 and orders 1 to 6 of paper 02
 //! alone, and the random books, vectors and comparisons that hold another planner against it.
 //!
 //! The planner: `book`, `changeovers`, `dates`, `binding`, `check`, `plan`, `board`,
-//! `passes`, `trials`, `text`, `programs`, `calls`, `tables` and `lists`. Its own check:
-//! `exhaustive`. What feeds tests: `random`, `draft`, `generate`, `seasons`, `damage`,
-//! `inputs`, `faults`, `named_runs`, `any_inputs`, `table_inputs`, `pass_inputs`,
-//! `list_inputs`, `large`, `sources`, `samples`, `vectors`, `frames` and `kinds`.
+//! `passes`, `trials`, `writing`, `text`, `programs`, `calls`, `tables`, `lists` and
+//! `contents`. Its own check: `exhaustive`. What feeds tests: `random`, `draft`, which also
+//! lays out what `writing` writes, `generate`, `seasons`, `damage`, `inputs`, `faults`,
+//! `named_runs`, `any_inputs`, `table_inputs`, `pass_inputs`, `content_inputs`,
+//! `content_samples`, `list_inputs`, `large`, `sources`, `samples`, `vectors`, `frames` and
+//! `kinds`.
 
 #![forbid(unsafe_code)]
 
@@ -16,6 +18,9 @@ pub mod book;
 pub mod calls;
 pub mod changeovers;
 pub mod check;
+pub mod content_inputs;
+pub mod content_samples;
+pub mod contents;
 pub mod damage;
 pub mod dates;
 pub mod draft;
@@ -43,3 +48,4 @@ pub mod tables;
 pub mod text;
 pub mod trials;
 pub mod vectors;
+pub mod writing;

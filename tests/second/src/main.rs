@@ -16,7 +16,7 @@ const USAGE: &str = "usage: second KIND                     one case
        second input NAME SEED          an input for `plan`
        second inputs NAME SEED COUNT   a framed stream of such inputs, of COUNT seeds
 KIND is plan, board, replay, check_lineup, read_book, any_bind, any_check, any_plan, any_begin,
-any_passed_report, any_failed_report, any_table or passes.
+any_passed_report, any_failed_report, any_table, passes, rewrite or write_book.
 NAME is typical, largest, chain, upward, downward or winding.";
 
 fn main() -> ExitCode {
@@ -43,7 +43,7 @@ fn answer(words: &[&str]) -> Option<io::Result<Vec<u8>>> {
 }
 
 fn answer_case(kind: Kind) -> Option<io::Result<Vec<u8>>> {
-    Some(input().map(|case| kind.run(&case).into_bytes()))
+    Some(input().map(|case| kind.output(&case)))
 }
 
 /// The inputs of a seed and of those after it.

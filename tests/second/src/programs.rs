@@ -2,7 +2,7 @@
 
 use crate::binding::{self, Batch, RUNS_AREA};
 use crate::board;
-use crate::book;
+use crate::book::{self, LONGEST_BOOK};
 use crate::check;
 use crate::dates::Date;
 use crate::passes;
@@ -10,8 +10,10 @@ use crate::plan::{self, LINEUP_AREA};
 use crate::refusal::Refusal;
 use crate::text;
 use crate::trials::{self, Record};
+use crate::writing::{self, Content};
 
-/// The most bytes of its input that `plan`, `board`, `passes` and `read_book` look at.
+/// The most bytes of its input that `plan`, `board`, `passes`, `read_book` and `rewrite`
+/// look at.
 pub const MOST_INPUT: usize = 65_536;
 
 /// Input that is shorter than its own fixed part or its lengths say.
@@ -114,6 +116,15 @@ pub fn read_book(input: &[u8]) -> String {
         Ok(book) => text::book(&book),
         Err(refused) => text::refusal(refused),
     }
+}
+
+/// 02's `rewrite`: the book that is written from the content of one book.
+pub fn rewrite(input: &[u8]) -> Result<Vec<u8>, Refusal> {
+    let content = Content::of_book(&book::read(first_bytes(input))?);
+    let mut area = vec![0; LONGEST_BOOK];
+    let length = writing::write(&content, &mut area).expect("a book that reads can be written");
+    area.truncate(length);
+    Ok(area)
 }
 
 fn first_bytes(input: &[u8]) -> &[u8] {

@@ -3,8 +3,8 @@
 #[derive(Clone, Copy, Debug, PartialEq, Eq)]
 pub struct Refusal {
     pub number: u8,
-    /// The byte at which the bad field starts; in the list form of planning
-    /// the index of the bad item. Refusals 7 to 13 and 15 to 17 have none.
+    /// The byte at which the bad field starts; in the list form of planning and in
+    /// writing the index of the bad item. Refusals 7 to 13 and 15 to 18 have none.
     pub at: Option<usize>,
 }
 

@@ -4,6 +4,7 @@
 use crate::any_inputs;
 use crate::binding::Batch;
 use crate::book::{TAG_CHANGEOVER, TAG_COUNT, TAG_RUN, TAG_SHEET};
+use crate::content_samples;
 use crate::dates::{Date, Day};
 use crate::draft::{Draft, Field};
 use crate::generate;
@@ -29,6 +30,8 @@ pub fn cases(kind: Kind, seed: u64) -> Vec<Vec<u8>> {
         Kind::Board => board_cases(random),
         Kind::AnyTable => table_inputs::chosen(random),
         Kind::Passes => pass_inputs::chosen(random),
+        Kind::Rewrite => content_samples::books(random),
+        Kind::WriteBook => content_samples::inputs(random),
     }
 }
 

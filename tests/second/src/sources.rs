@@ -1,5 +1,5 @@
-//! What a comparison draws its inputs from: the random cases of a kind, plans and
-//! boards at the limits of length, or lists of changeovers.
+//! What a comparison draws its inputs from: the random cases of a kind, plans, boards and
+//! books at the limits of length, or lists of changeovers.
 
 use crate::frames;
 use crate::inputs;
@@ -16,6 +16,7 @@ pub enum Source {
     LongPlans,
     LargestBoards,
     LongBoards,
+    LongRewrites,
     Lists,
 }
 
@@ -29,6 +30,7 @@ impl Source {
             "largest_board" => Some((Source::LargestBoards, false)),
             "largest_boards" => Some((Source::LargestBoards, true)),
             "long_board" => Some((Source::LongBoards, false)),
+            "long_rewrite" => Some((Source::LongRewrites, false)),
             "plan_lists" => Some((Source::Lists, true)),
             _ => {
                 let single = Kind::named(name).map(|kind| (Source::Cases(kind), false));
@@ -44,6 +46,7 @@ impl Source {
             Source::Cases(kind) => Some(kind),
             Source::LargestPlans | Source::LongPlans => Some(Kind::Plan),
             Source::LargestBoards | Source::LongBoards => Some(Kind::Board),
+            Source::LongRewrites => Some(Kind::Rewrite),
             Source::Lists => None,
         }
     }
@@ -58,15 +61,16 @@ impl Source {
             Source::LongPlans => large::long_plan(&mut random(1), index),
             Source::LargestBoards => large::largest_board(&mut random(2)),
             Source::LongBoards => large::long_board(&mut random(3), index),
+            Source::LongRewrites => large::long_book(&mut random(4), index),
             Source::Lists => list_inputs::case(seed, index),
         }
     }
 
     /// What a program prints for a case by itself.
-    pub fn answer(self, case: &[u8]) -> String {
+    pub fn answer(self, case: &[u8]) -> Vec<u8> {
         match self.kind() {
-            Some(kind) => kind.run(case),
-            None => lists::run_frame(case),
+            Some(kind) => kind.output(case),
+            None => lists::run_frame(case).into(),
         }
     }
 
@@ -79,10 +83,10 @@ impl Source {
     }
 
     /// What a program prints for such a stream.
-    pub fn answers(self, stream: &[u8]) -> String {
+    pub fn answers(self, stream: &[u8]) -> Vec<u8> {
         match self.kind() {
-            Some(_) => frames::run(stream),
-            None => lists::run(stream),
+            Some(_) => frames::run(stream).into(),
+            None => lists::run(stream).into(),
         }
     }
 }

@@ -103,6 +103,12 @@ pub fn book(book: &Book) -> String {
     text
 }
 
+/// A book that is written: its length, and its bytes in hexadecimal.
+pub fn written(book: &[u8]) -> String {
+    let digits: String = book.iter().map(|byte| format!("{byte:02X}")).collect();
+    format!("LENGTH {}\n{digits}\n", book.len())
+}
+
 fn grades_line(grades: &[u8]) -> String {
     let words: Vec<String> = grades.iter().map(u8::to_string).collect();
     words.join(" ") + "\n"

@@ -2,6 +2,7 @@
 //! ones.
 
 use crate::binding::Batch;
+use crate::content_samples;
 use crate::dates::Date;
 use crate::frames;
 use crate::generate;
@@ -24,6 +25,8 @@ fn random_cases(kind: Kind) -> u64 {
         Kind::Board => 500,
         Kind::AnyTable => 150,
         Kind::Passes => 300,
+        Kind::Rewrite => 600,
+        Kind::WriteBook => 1_200,
     }
 }
 
@@ -56,7 +59,7 @@ const NO_KIND: [&[u8]; 4] = [&[], &[12], &[255], &[12, 1, 0, 1, 4]];
 pub struct Stored {
     pub program: &'static str,
     pub stdin: Vec<u8>,
-    pub stdout: String,
+    pub stdout: Vec<u8>,
     pub note: String,
 }
 
@@ -68,20 +71,20 @@ pub fn stored(seed: u64, folder: &str) -> Vec<Stored> {
     let mut list = vec![
         Stored {
             program: "frames",
-            stdout: frames::run(&stream),
+            stdout: frames::run(&stream).into_bytes(),
             stdin: stream,
             note: stream_note(seed) + &origin(seed, folder),
         },
         Stored {
             program: "plan_list",
-            stdout: lists::run(&stream_of_lists),
+            stdout: lists::run(&stream_of_lists).into_bytes(),
             stdin: stream_of_lists,
             note: lists_note(seed) + &origin(seed, folder),
         },
     ];
     list.extend(single_cases(seed).into_iter().map(|(kind, case, note)| Stored {
         program: kind.name(),
-        stdout: kind.run(&case),
+        stdout: kind.output(&case),
         stdin: case,
         note: format!(
             "The file stdin here is {note}.\nstdout is what it prints.\n{}\
@@ -125,6 +128,17 @@ fn single_cases(seed: u64) -> Vec<(Kind, Vec<u8>, &'static str)> {
             Kind::Passes,
             generate::typical(&mut Random::new(&[seed])).bytes(),
             "one case of `passes`: a book of 30 grades",
+        ),
+        (
+            Kind::Rewrite,
+            book,
+            "one case of `rewrite`: book A, whose changeovers paper 01 lists in another order than rising",
+        ),
+        (
+            Kind::WriteBook,
+            content_samples::write_case().bytes(),
+            "one case of `write_book`: book A with its changeovers in yet another order, and with a window\n\
+             on its second sheet, for an area of just the book's length",
         ),
     ]
 }

@@ -53,7 +53,7 @@ fn second_answers_one_case_or_a_stream() {
     );
     for kind in KINDS {
         let case = inputs::case(kind, 1, 1);
-        assert_eq!(text(&run(SECOND, &[kind.name()], &case)), kind.run(&case));
+        assert_eq!(run(SECOND, &[kind.name()], &case).stdout, kind.output(&case));
     }
     assert_eq!(
         run(SECOND, &["input", "chain", "1"], &[]).stdout,
@@ -79,6 +79,7 @@ fn wrong_words_fail() {
         (COMPARE, &["other", "5", "1", "--", SECOND, "plan"]),
         (COMPARE, &["long_plans", "5", "1", "--", SECOND, "plan"]),
         (COMPARE, &["long_boards", "5", "1", "--", SECOND, "board"]),
+        (COMPARE, &["long_rewrites", "5", "1", "--", SECOND, "rewrite"]),
         (COMPARE, &["plan_list", "5", "1", "--", SECOND, "plan_lists"]),
         (COMPARE, &["passess", "5", "1", "--", SECOND, "frames"]),
         (COMPARE, &["--trickle", "0", "plan", "5", "1", "--", SECOND, "plan"]),
@@ -102,11 +103,12 @@ fn vectors_writes_three_files_for_each_program() {
     let stream = lists::join(&list_inputs::stored(4));
     assert_eq!(read("plan_list", "stdin"), stream);
     assert_eq!(read("plan_list", "stdout"), lists::run(&stream).into_bytes());
-    for kind in [Kind::Plan, Kind::Board, Kind::CheckLineup, Kind::Replay, Kind::Passes] {
-        let case = read(kind.name(), "stdin");
-        assert_eq!(read(kind.name(), "stdout"), kind.run(&case).into_bytes());
+    let kinds = ["plan", "board", "check_lineup", "replay", "passes", "rewrite", "write_book"];
+    for name in kinds {
+        let case = read(name, "stdin");
+        assert_eq!(read(name, "stdout"), Kind::named(name).unwrap().output(&case));
     }
-    for program in ["frames", "plan_list", "plan", "board", "check_lineup", "replay", "passes"] {
+    for program in kinds.iter().chain(&["frames", "plan_list"]) {
         let note = String::from_utf8(read(program, "VECTORS.txt")).unwrap();
         assert!(note.contains(&format!("--bin vectors -- 4 {name}\n")), "{note}");
     }
@@ -133,7 +135,9 @@ fn compare_takes_long_inputs_and_lets_them_trickle() {
         (&["long_plan", "12"], "plan"),
         (&["largest_boards", "3"], "frames"),
         (&["long_board", "12"], "board"),
+        (&["long_rewrite", "12"], "rewrite"),
         (&["--trickle", "300", "long_plan", "6"], "plan"),
+        (&["--trickle", "300", "long_rewrite", "6"], "rewrite"),
         (&["--limit", "60", "--trickle", "1", "check_lineup", "3"], "check_lineup"),
     ] {
         let words = [words, &["2", "--", SECOND, word]].concat();
@@ -164,6 +168,19 @@ fn compare_reports_each_difference() {
             text(&run(COMPARE, &words, &[])).ends_with("plan: 2 inputs of seed 2, 2 different\n")
         );
     }
+}
+
+/// Bytes that are no text differ too, and are shown.
+#[test]
+fn compare_compares_bytes() {
+    let script = format!("{SECOND} rewrite | tr '\\300-\\376' '\\301-\\377'");
+    let output = run(COMPARE, &["long_rewrite", "1", "2", "--", "sh", "-c", &script], &[]);
+    assert!(!output.status.success());
+    let printed = text(&output);
+    let (before, got) = printed.split_once(", got \"").unwrap();
+    let (place, expected) = before.split_once(": expected \"").unwrap();
+    assert!(place.starts_with("DIFFERENT long_rewrite seed 2 index 0: line "), "{printed}");
+    assert!(!got.starts_with(expected.trim_end_matches("\"...")), "{printed}");
 }
 
 /// A line with too many passes, by itself and in a stream.

@@ -66,6 +66,17 @@ fn frames_are_joined_and_split() {
     assert_eq!(frames::split(&[0, 0, 0]), Vec::<&[u8]>::new());
 }
 
+/// Stored frames have 12 and 255 as no kind.
+#[test]
+fn kinds_have_bytes_of_their_own() {
+    let bytes: BTreeSet<u8> = KINDS.iter().map(|kind| kind.byte()).collect();
+    assert_eq!(
+        bytes.into_iter().collect::<Vec<_>>(),
+        [&(0..12).collect::<Vec<u8>>()[..], &[13, 14, 15]].concat()
+    );
+    assert!(KINDS.iter().all(|&kind| Kind::of_byte(kind.byte()) == Some(kind)));
+}
+
 /// The vectors of each kind: enough cases, small enough, and each answer that
 /// the kind can have.
 #[test]
@@ -95,6 +106,12 @@ fn vectors_are_complete() {
     check(Kind::AnyTable, 200, 500_000, &[&table[..], &["REFUSED 1 "]].concat());
     let passes = ["END 0 PASSES 1 MOST 0", "END 63 PASSES 64 MOST 63", "END 63 PASSES 2 MOST 1"];
     check(Kind::Passes, 600, 500_000, &with(&passes));
+    let lengths = ["LENGTH 4", "LENGTH 81", "LENGTH 85", "LENGTH 39252", "REFUSED 14 "];
+    check(Kind::Rewrite, 900, 700_000, &with(&lengths));
+    let written =
+        [&lengths[..], &["REFUSED 1 ", "REFUSED 3 ", "REFUSED 4 ", "REFUSED 5 "]].concat();
+    let written = [&written[..], &["REFUSED 6 ", "REFUSED 18"]].concat();
+    check(Kind::WriteBook, 1_800, 800_000, &written);
     let any = |call, answers: &[&str]| check(Kind::Any(call), 100, 500_000, answers);
     any(Call::Bind, &["KNOWN 2", "RUNS ", "REFUSED 1 ", "REFUSED 8"]);
     any(Call::Check, &["CLEAR", "RUN AT ", "REFUSED 1 ", "REFUSED 8", "REFUSED 9", "REFUSED 10"]);

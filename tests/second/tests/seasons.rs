@@ -12,7 +12,6 @@ use second::draft::Draft;
 use second::generate;
 use second::inputs::{self, board_input, check_lineup_input, plan_input, replay_input};
 use second::kinds::Kind;
-use second::large;
 use second::plan::{self, LINEUP_AREA};
 use second::programs;
 use second::refusal::Refusal;
@@ -549,7 +548,7 @@ fn the_head_of_single_calls_ends_in_the_date() {
 /// 39,259 and 39,260.
 #[test]
 fn the_longest_inputs() {
-    assert_eq!(large::LONGEST_BOOK, 39_252);
+    assert_eq!(book::LONGEST_BOOK, 39_252);
     let holds = |kind: Kind, length: usize, answer: &str| {
         let stored = vectors::cases(kind, 1);
         let found =

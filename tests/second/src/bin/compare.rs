@@ -18,8 +18,8 @@ const USAGE: &str =
     "usage: compare [--limit SECONDS] [--trickle BYTES] KIND N SEED -- COMMAND WORDS...
        compare --show KIND SEED INDEX
 KIND is plan, board, replay, check_lineup, read_book, any_bind, any_check, any_plan, any_begin,
-any_passed_report, any_failed_report, any_table, passes, largest_plan, largest_board, long_plan
-or long_board: one process for each input;
+any_passed_report, any_failed_report, any_table, passes, rewrite, write_book, largest_plan,
+largest_board, long_plan, long_board or long_rewrite: one process for each input;
 or one of these with an s behind it, except the long ones and passes, or books_passes: framed
 streams of inputs;
 or plan_lists: framed streams of lists.";
@@ -135,12 +135,14 @@ impl<'a> Task<'a> {
 
     fn case_difference(&self, index: u64) -> Option<Difference> {
         let case = self.source.case(self.seed, index);
-        if self.framed && case.len() > MOST_INPUT {
+        if !self.framed {
+            return self.difference(&case, &self.source.answer(&case));
+        }
+        if case.len() > MOST_INPUT {
             return None;
         }
-        let expected = self.source.answer(&case);
-        let input = if self.framed { self.source.join(&[case]) } else { case };
-        self.difference(&input, &expected)
+        let stream = self.source.join(&[case]);
+        self.difference(&stream, &self.source.answers(&stream))
     }
 
     /// Compares whole streams; one that differs is gone through case by case.
@@ -174,10 +176,10 @@ impl<'a> Task<'a> {
     }
 
     /// What is wrong with the command's answer to an input, if anything.
-    fn difference(&self, input: &[u8], expected: &str) -> Option<Difference> {
+    fn difference(&self, input: &[u8], expected: &[u8]) -> Option<Difference> {
         let text = match self.run(input) {
             Ok(Run::Ended(status, _)) if !status.success() => format!("ended with {status}"),
-            Ok(Run::Ended(_, output)) => fault(expected, &String::from_utf8_lossy(&output))?,
+            Ok(Run::Ended(_, output)) => fault(expected, &output)?,
             Ok(Run::Hangs) => {
                 let seconds = self.limit.as_secs();
                 let text = format!("hangs: still running after {seconds} s, and ended");
@@ -208,29 +210,35 @@ impl<'a> Task<'a> {
 }
 
 /// What is wrong with an output, if anything.
-fn fault(expected: &str, got: &str) -> Option<String> {
-    match text::over(got) {
-        Some(line) => Some(format!("too many passes: {}", shown(line))),
+fn fault(expected: &[u8], got: &[u8]) -> Option<String> {
+    match text::over(&String::from_utf8_lossy(got)) {
+        Some(line) => Some(format!("too many passes: {}", shown(line.as_bytes()))),
         None if got == expected => None,
         None => Some(first_difference(expected, got)),
     }
 }
 
-/// Both texts from their first differing line on.
-fn first_difference(expected: &str, got: &str) -> String {
-    let pairs = expected.split_inclusive('\n').zip(got.split_inclusive('\n'));
-    let same: Vec<&str> =
-        pairs.take_while(|(one, other)| one == other).map(|(line, _)| line).collect();
-    let length: usize = same.iter().map(|line| line.len()).sum();
-    let line = same.len() + 1;
-    format!("line {line}: expected {}, got {}", shown(&expected[length..]), shown(&got[length..]))
+/// Both outputs from their first differing line on; of a long line from a little before the
+/// byte that differs.
+fn first_difference(expected: &[u8], got: &[u8]) -> String {
+    let same = expected.iter().zip(got).take_while(|(one, other)| one == other).count();
+    let is_end = |&byte: &u8| byte == b'\n';
+    let line = expected[..same].iter().filter(|byte| is_end(byte)).count() + 1;
+    let start = expected[..same].iter().rposition(is_end).map_or(0, |end| end + 1);
+    let from = start.max(same.saturating_sub(SHOWN / 2));
+    let place = if from > start { format!(" from byte {}", from - start) } else { String::new() };
+    format!(
+        "line {line}{place}: expected {}, got {}",
+        shown(&expected[from..]),
+        shown(&got[from..])
+    )
 }
 
-/// A text in quotes, cut where it is long.
-fn shown(text: &str) -> String {
-    let part: String = text.chars().take(SHOWN).collect();
-    let dots = if part.len() < text.len() { "..." } else { "" };
-    format!("{part:?}{dots}")
+/// An output in quotes, cut where it is long. Bytes that are no text are in hexadecimal.
+fn shown(output: &[u8]) -> String {
+    let part = &output[..output.len().min(SHOWN)];
+    let dots = if part.len() < output.len() { "..." } else { "" };
+    format!("\"{}\"{dots}", part.escape_ascii())
 }
 
 enum Run {

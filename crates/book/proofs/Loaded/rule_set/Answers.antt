@@ -1,9 +1,0 @@
--- A set more, its needs right after the others'.
-use Rattle.std.proofs.Common.{sym, ◌∙◌}
-use Rattle.book.proofs.Added.{set-added}
-use Rattle.book.proofs.Loaded.rule_set.Goals as goal
-
-pub returns : goal.returns
-returns c b h =
-    let a = c.args in
-    set-added a.self.now a.bytes.now b a.at h c.needs_at-needs.result c.needs_at-needs.ensures (sym c.is_valid.ensures ∙ c.if-not-is_valid.false) c.if-k-ge-MOST_SETS.false

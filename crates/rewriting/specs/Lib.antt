@@ -1,0 +1,2 @@
+-- Meaning: Rewriting, what is written.
+pub mod Rewriting

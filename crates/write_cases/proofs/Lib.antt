@@ -1,0 +1,4 @@
+pub mod Enough
+pub mod InputLaws
+pub mod KeptLaws
+pub mod WrittenLaws
