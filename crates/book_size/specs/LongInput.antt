@@ -1,4 +1,4 @@
--- 01: the program `plan` reads the first 65,536 bytes at most, and the first bad field of anything longer is found within them. So does `board`.
+-- 01: the program `plan` reads the first 65,536 bytes at most, and the first bad field of anything longer is found within them. So do `board` and `rewrite`.
 use Rattle.std.specs.Prelude.{ℕ, zero, suc, ◌+◌, ◌*◌, ◌<◌, ◌≤◌, ◌≡◌, refl, true, List, [], ◌∷◌, length, get_or, take, drop}
 use Rattle.std.proofs.Common.{sym, ap, ap₂, subst, ◌∙◌, zero-add, suc-add, arith, le-leb, length-drop, get_or-take, take_all, length-take-le}
 use Rattle.std.proofs.Math.Decide.{dec_le}
@@ -7,6 +7,7 @@ use Rattle.book.specs.Reading.{reading, u16_at}
 use Rattle.rules.specs.Binding.{batch_at}
 use Rattle.answer.specs.Answer.{AnsweredOf, AnsweredBy, Answered}
 use Rattle.board_text.specs.Board.{board_of, board_by, board_text}
+use Rattle.rewriting.specs.Rewriting.{rewritten_as, rewritten}
 use Rattle.book_bytes.proofs.LongBook.{reading-front}
 
 -- The book of a long input comes after a head of k bytes.
@@ -56,3 +57,11 @@ first_board_bytes s = go (dec_le 65536 (length s))
         ∙ ap (λ x. board_of x (batch_at (take 65536 s) 3) (get_or (take 65536 s) 2 0)) (same-book s long 7 65529 refl (omega arith))
         ∙ ap₂ (board_of (reading (drop 7 s))) (same_batch s long 3 (omega arith)) (same_byte s long 2 (omega arith))
         ∙ ap (λ x. board_by x s) (sym (le-leb 7 (length s) (omega arith)))
+
+-- The same of `rewrite`.
+pub first_rewritten_bytes : (s : List ℕ) → rewritten (take 65536 s) ≡ rewritten s
+first_rewritten_bytes s = go (dec_le 65536 (length s))
+  where
+    go : Dec (65536 ≤ length s) → rewritten (take 65536 s) ≡ rewritten s
+    go (no short) = ap rewritten (take_all 65536 s (omega arith))
+    go (yes long) = ap rewritten_as (same-book s long 0 65536 refl (omega arith))

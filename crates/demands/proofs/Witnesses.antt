@@ -19,10 +19,10 @@ use Rattle.walks.proofs.Avoid.{occurs→Occurs, avoids→Avoids}
 use Rattle.walks.specs.Feasible.{is_feasible}
 use Rattle.walks.specs.Stutter.{Stutters}
 use Rattle.book.specs.declared.Refusal.{Refusal}
-use Rattle.book.specs.declared.Refusal.TheVariants.{Ended, NotStanding}
+use Rattle.book.specs.declared.Refusal.TheVariants.{Length, Value, Ended, NotStanding}
 use Rattle.book.specs.Refusal.{number_of}
 use Rattle.book.specs.Book.{RuleSet, Book, is_path, are_vertices, all_paths}
-use Rattle.book.specs.Reading.{accepted, reading, fields, add_path}
+use Rattle.book.specs.Reading.{accepted, refused, reading, fields, add_path}
 use Rattle.book.proofs.BookLaws.{is_path→IsPath, vertices-below}
 use Rattle.book_bytes.specs.Bytes.{AreBytes}
 use Rattle.book_bytes.proofs.BytesLaws.{length-bytes}
@@ -406,3 +406,31 @@ pub too_short-a : (area : List ℕ) → length area ≡ 84 → (r : Result ℕ R
     → ((x : Refusal) × (number_of x ≡ 18) × (r ≡ Err x)) × (new ≡ area)
 too_short-a area size r new w =
     order-6.no_room 4 numbers_from_last numbers_of_sets (with_arcs from_last) taken-a area (omega (arith, needs-85, size)) r new w
+
+-- ---- numbers that no byte holds, and numbers that end too soon
+-- a changeover from 300, and one of two numbers
+pub from-300 : content 4 (300 ∷ 1 ∷ 5 ∷ []) [] ≡ refused (Value 1)
+unfolding arc_items with_items
+from-300 = refl
+
+pub two_numbers : content 4 (0 ∷ 1 ∷ []) [] ≡ refused (Length 1)
+unfolding arc_items with_items
+two_numbers = refl
+
+-- marks of 17 bits, though the window is none either; and a window from day 256
+pub marks-65536 : content 4 [] (65536 ∷ 1 ∷ 256 ∷ 1 ∷ 1 ∷ 1 ∷ 0 ∷ []) ≡ refused (Value 1)
+unfolding arc_items set_items with_items
+marks-65536 = refl
+
+pub day-256 : content 4 [] (0 ∷ 1 ∷ 256 ∷ 1 ∷ 1 ∷ 1 ∷ 0 ∷ []) ≡ refused (Refusal.Window 1)
+unfolding arc_items set_items with_items
+day-256 = refl
+
+-- a sheet without its number of runs, and one whose run is not there
+pub two_of_a_sheet : content 4 [] (0 ∷ 0 ∷ []) ≡ refused (Length 1)
+unfolding arc_items set_items with_items
+two_of_a_sheet = refl
+
+pub run_not_there : content 4 [] (0 ∷ 0 ∷ 1 ∷ []) ≡ refused (Length 2)
+unfolding arc_items set_items with_items
+run_not_there = refl

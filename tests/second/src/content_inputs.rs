@@ -74,7 +74,7 @@ fn add_field(content: &mut Content, field: &Field) -> Option<()> {
     Some(())
 }
 
-fn given_sheet(marks: [u8; 2], window: Option<[u8; 4]>) -> GivenSheet {
+pub(crate) fn given_sheet(marks: [u8; 2], window: Option<[u8; 4]>) -> GivenSheet {
     GivenSheet { marks: u16::from_be_bytes(marks), window, runs: Vec::new() }
 }
 

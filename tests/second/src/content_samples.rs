@@ -165,6 +165,7 @@ fn changeovers_and_runs() -> Vec<Good> {
         ("runs in falling order", Draft::new(3).sheet(1).run(&[2, 1, 0]).run(&[0, 2]), 20),
         ("256 runs in a sheet", full_runs(), 1_289),
         ("256 runs in 16 sheets", spread_runs(), 1_364),
+        ("256 runs, 241 of them in the last of 16 sheets", late_runs(), 1_364),
     ]
 }
 
@@ -200,6 +201,13 @@ fn sheets() -> Vec<Good> {
 fn spread_runs() -> Draft {
     let runs = vec![vec![1, 0]; MOST_SHEETS];
     (0..16).fold(Draft::new(2), |draft, marks| draft.sheet(marks).runs(&runs))
+}
+
+/// As many sheets as a book may have, each with one run, but the last with all others.
+fn late_runs() -> Draft {
+    let one = |draft: Draft, marks| draft.sheet(marks).run(&[1, 0]);
+    let runs: Vec<Vec<u8>> = (0..241).map(|i| vec![(i % 3) as u8, (i % 2) as u8]).collect();
+    (0..15).fold(Draft::new(3), one).sheet(15).runs(&runs)
 }
 
 fn full_seasons() -> Draft {

@@ -4,7 +4,7 @@
 //! to, litres (4); the number of sheets (1) and each of them: marks (2), a byte that is 0 if
 //! it has no window, otherwise the window (4), the number of its runs (2), and each run: its
 //! length (1) and its grades; then the length of the area (4). Numbers have their high byte
-//! first. Further bytes are ignored.
+//! first. Further bytes are ignored, and so is what comes after the first 1,048,576.
 
 use crate::programs::Input;
 use crate::refusal::Refusal;
@@ -14,7 +14,7 @@ use crate::writing::{self, Content, GivenChangeover, GivenSheet};
 /// The bytes of the longest area that the program lends.
 pub const MOST_AREA: usize = 65_536;
 
-/// No input that tests have is longer.
+/// The most bytes of its input that the program looks at.
 pub const LONGEST_INPUT: usize = 1 << 20;
 
 #[derive(Clone, Debug, PartialEq, Eq)]
@@ -26,7 +26,7 @@ pub struct WriteCase {
 
 impl WriteCase {
     pub fn read(input: &[u8]) -> Result<WriteCase, Refusal> {
-        let mut input = Input(input);
+        let mut input = Input(&input[..input.len().min(LONGEST_INPUT)]);
         let grades = input.byte()?.into();
         let changeovers =
             (0..input.word()?).map(|_| changeover(&mut input)).collect::<Result<_, _>>()?;

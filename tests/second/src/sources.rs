@@ -1,5 +1,5 @@
-//! What a comparison draws its inputs from: the random cases of a kind, plans, boards and
-//! books at the limits of length, or lists of changeovers.
+//! What a comparison draws its inputs from: the random cases of a kind, plans, boards, books
+//! and contents at the limits of length, or lists of changeovers.
 
 use crate::frames;
 use crate::inputs;
@@ -17,6 +17,7 @@ pub enum Source {
     LargestBoards,
     LongBoards,
     LongRewrites,
+    LongContents,
     Lists,
 }
 
@@ -31,6 +32,7 @@ impl Source {
             "largest_boards" => Some((Source::LargestBoards, true)),
             "long_board" => Some((Source::LongBoards, false)),
             "long_rewrite" => Some((Source::LongRewrites, false)),
+            "long_write_book" => Some((Source::LongContents, false)),
             "plan_lists" => Some((Source::Lists, true)),
             _ => {
                 let single = Kind::named(name).map(|kind| (Source::Cases(kind), false));
@@ -47,6 +49,7 @@ impl Source {
             Source::LargestPlans | Source::LongPlans => Some(Kind::Plan),
             Source::LargestBoards | Source::LongBoards => Some(Kind::Board),
             Source::LongRewrites => Some(Kind::Rewrite),
+            Source::LongContents => Some(Kind::WriteBook),
             Source::Lists => None,
         }
     }
@@ -62,6 +65,7 @@ impl Source {
             Source::LargestBoards => large::largest_board(&mut random(2)),
             Source::LongBoards => large::long_board(&mut random(3), index),
             Source::LongRewrites => large::long_book(&mut random(4), index),
+            Source::LongContents => large::long_content(&mut random(5), index),
             Source::Lists => list_inputs::case(seed, index),
         }
     }

@@ -395,6 +395,56 @@ fn rewrite_at_the_limits_of_length() {
     }
 }
 
+/// What stands behind the first 1,048,576 bytes counts for nothing.
+#[test]
+fn write_book_at_the_limits_of_length() {
+    for index in 0..24 {
+        let input = Source::LongContents.case(2, index);
+        let answer = Source::LongContents.answer(&input);
+        let answer = String::from_utf8(answer).unwrap();
+        let first = &input[..input.len().min(LONGEST_INPUT)];
+        assert_eq!(contents::run(first), answer);
+        let late = index / 6 % 2 == 0;
+        let case = WriteCase::read(&input);
+        let content = case.map(|case| case.content);
+        match index % 6 {
+            0 => {
+                let changeovers = content.unwrap().changeovers;
+                assert!(changeovers.len() == 65_535 && input.len() > 393_221);
+                assert_eq!(answer.ends_with(" AT 4033\n"), late, "{answer}");
+            }
+            1 => {
+                let content = content.unwrap();
+                let last = content.sheets.last().unwrap();
+                assert_eq!(last.runs.len(), 65_535);
+                let index = 4_032 + content.sheets.len() + 257;
+                assert_eq!(answer.ends_with(&format!(" AT {index}\n")), late, "{answer}");
+            }
+            2 => {
+                let sheets = content.unwrap().sheets;
+                assert_eq!(sheets.len(), 255);
+                let runs: usize = sheets[..16].iter().map(|sheet| sheet.runs.len()).sum();
+                let index = 4_032 + 17 + runs;
+                assert_eq!(answer.ends_with(&format!(" AT {index}\n")), late, "{answer}");
+            }
+            3 => assert_eq!(input.len(), LONGEST_INPUT),
+            4 => assert!(input.len() > LONGEST_INPUT && content.is_ok()),
+            _ => {
+                assert!(input.len() > LONGEST_INPUT);
+                assert_eq!(answer, "REFUSED 1 AT 0\n");
+            }
+        }
+        // All that the input says ends with its last byte that is read, or before.
+        match (index % 6, late) {
+            (3, true) | (4, false) => assert!(answer.ends_with(" AT 4305\n"), "{answer}"),
+            (3, false) | (4, true) => {
+                assert!(answer.starts_with("LENGTH 39252\n") || answer == "REFUSED 18\n");
+            }
+            _ => assert!(answer.starts_with("REFUSED "), "{answer}"),
+        }
+    }
+}
+
 /// The items of a content that are of an item's sort, from the first index to the last.
 fn indexes_of_sort(content: &Content, index: usize) -> Vec<usize> {
     let sort = |item: &Item| match item {

@@ -19,7 +19,8 @@ const USAGE: &str =
        compare --show KIND SEED INDEX
 KIND is plan, board, replay, check_lineup, read_book, any_bind, any_check, any_plan, any_begin,
 any_passed_report, any_failed_report, any_table, passes, rewrite, write_book, largest_plan,
-largest_board, long_plan, long_board or long_rewrite: one process for each input;
+largest_board, long_plan, long_board, long_rewrite or long_write_book: one process for each
+input;
 or one of these with an s behind it, except the long ones and passes, or books_passes: framed
 streams of inputs;
 or plan_lists: framed streams of lists.";
