@@ -27,7 +27,7 @@ use Rattle.listed.specs.Listing.{arc_of, items as list_items, counted, listing}
 use Rattle.content.specs.Content.{Item, an_arc, a_set, a_path, cut, items, item_tests, add_item, with_items, content}
 use Rattle.demands.specs.Conditions.{HasNumber, Decides}
 use Rattle.demands.proofs.Conditions.{one-refusal, first-none, first_some, le_iff, lt_iff, eq_iff, and-iff, zero_one}
-use Rattle.demands.specs.Fields.{Follows, Fits, Proper, Seasonal, New, Fresh, HasRoom, field_conditions, BadField, bad_field, good-field, BadBook, count_conditions, item_conditions, BadItem, bad_item, good_item, counted_book, BadFrom, BadContent, listed_items, BadList, field_tests}
+use Rattle.demands.specs.Fields.{Follows, Fits, Proper, Seasonal, New, Fresh, HasRoom, field_conditions, BadField, bad_field, good-field, BadBook, count_conditions, item_conditions, grown, BadItem, bad_item, good_item, counted_book, BadFrom, BadContent, listed_items, BadList, field_tests}
 
 -- ---- each test
 nothing-asked : (true ≡ true) ↔ Unit {0}
@@ -193,6 +193,12 @@ item_decides i b cut = (never, (refl, refl), λ _. tt)
 pub count-decides : (n : ℕ) → Decides 0 (count_tests 0 n) (count_conditions n)
 count-decides n = (and-iff (leb 1 n) (leb n most_vertices) (le_iff 1 n) (le_iff n most_vertices), (refl, refl), λ _. tt)
 
+grown-is : (b : Book) (y : Item) → grown b y ≡ add_item b y
+grown-is b (an_arc a) = refl
+grown-is b (a_set f) = refl
+grown-is b (a_path p) = refl
+grown-is b cut = refl
+
 module _ (x : Refusal) where
   to_bad_item : (i : ℕ) (xs : List Item) (b : Book) → with_items i xs b ≡ refused x → BadItem i xs b x
   unfolding with_items
@@ -201,7 +207,9 @@ module _ (x : Refusal) where
     where
       by : (o : Option Refusal) → first_failure (item_tests b i y) ≡ o → and_then (outcome o (add_item b y)) (with_items (suc i) xs) ≡ refused x
           → ((b' : Book) → with_items (suc i) xs b' ≡ refused x → BadItem (suc i) xs b' x) → BadItem i (y ∷ xs) b x
-      by none f e ih = good_item ((first-none i (item_tests b i y) (item_conditions b y) (item_decides i b y)).0 f) (ih _ e)
+      by none f e ih =
+          good_item ((first-none i (item_tests b i y) (item_conditions b y) (item_decides i b y)).0 f)
+          (subst (λ c. BadItem (suc i) xs c x) (sym (grown-is b y)) (ih (add_item b y) e))
       by (some z) f e ih = let same : z ≡ x = cc in bad_item ((first_some i (item_tests b i y) (item_conditions b y) x (item_decides i b y)).0 (f ∙ ap some same))
 
   from_bad_item : {i : ℕ} {xs : List Item} {b : Book} → BadItem i xs b x → with_items i xs b ≡ refused x
@@ -210,6 +218,7 @@ module _ (x : Refusal) where
       ap (λ o. and_then (outcome o (add_item b y)) (with_items (suc i) xs)) ((first_some i (item_tests b i y) (item_conditions b y) x (item_decides i b y)).1 f)
   from_bad_item (good_item {i = i} {y = y} {xs = xs} {b = b} h rest) =
       ap (λ o. and_then (outcome o (add_item b y)) (with_items (suc i) xs)) ((first-none i (item_tests b i y) (item_conditions b y) (item_decides i b y)).1 h)
+      ∙ ap (with_items (suc i) xs) (sym (grown-is b y))
       ∙ from_bad_item rest
 
 -- A count and items are refused under x exactly for a bad count or a bad item.

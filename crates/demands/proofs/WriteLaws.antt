@@ -20,7 +20,7 @@ use Rattle.book.proofs.BookLaws.{all_map, all_append, all_left, all_right}
 use Rattle.book_bytes.specs.Bytes.{AreBytes, ProperNeeds, Keeps, bytes_of}
 use Rattle.book_bytes.proofs.ReadsLaws.{book}
 use Rattle.book_bytes.proofs.RoundTrip.{round_trip}
-use Rattle.content.specs.Content.{Item, an_arc, a_set, a_path, cut, set_items, items, add_item, content}
+use Rattle.content.specs.Content.{Item, an_arc, a_set, a_path, cut, set_items, items, content}
 use Rattle.writing.specs.Contents.{set_list, book_items, arc_numbers, window_numbers, path_numbers, set_numbers, SetsSaid, EndInArc, EndInSet, EndInPaths, SameButOrder}
 use Rattle.writing.specs.Rising.{Rising, rising, in_order}
 use Rattle.writing.specs.Writing.{bytes_in_order, write_tests, answer_by, area_by, length_written, area_after, WritingOf}
@@ -34,7 +34,7 @@ use Rattle.rewriting.specs.Rewriting.{rewritten as rewrite, rewritten_as}
 use Rattle.text.specs.Text.{refusal_text}
 use Rattle.demands.specs.Conditions.{AllHold, FirstFails}
 use Rattle.demands.proofs.Conditions.{decided, zero_one}
-use Rattle.demands.specs.Fields.{count_conditions, BadItem, bad_item, good_item, counted_book, BadFrom}
+use Rattle.demands.specs.Fields.{count_conditions, grown, BadItem, bad_item, good_item, counted_book, BadFrom}
 use Rattle.demands.proofs.Fields.{count-decides, bad_content}
 use Rattle.demands.specs.Asked.{write_conditions}
 use Rattle.demands.proofs.Asked.{conditions}
@@ -115,7 +115,7 @@ after-cut x i xs ys b = (to i xs ys [] b, to i xs [] ys b)
     to i [] ys zs b (bad_item f) = bad_item f
     to i [] ys zs b (good_item h rest) = absurd h.0
     to i (y ∷ xs) ys zs b (bad_item f) = bad_item f
-    to i (y ∷ xs) ys zs b (good_item h rest) = good_item h (to (suc i) xs ys zs (add_item b y) rest)
+    to i (y ∷ xs) ys zs b (good_item h rest) = good_item h (to (suc i) xs ys zs (grown b y) rest)
 
 pub cut_changeover : (n : ℕ) (given : List Arc) (rest sets : List ℕ) → EndInArc rest
     → (x : Refusal) → (content n (flat_map arc_numbers given ++ rest) sets ≡ refused x) ↔ BadFrom 1 n (map an_arc given ++ (cut ∷ [])) x

@@ -13,10 +13,10 @@ use Rattle.book.specs.declared.Kind.TheVariants.{VertexCount, Path}
 use Rattle.book.specs.declared.Refusal.{Refusal}
 use Rattle.book.specs.Refusal.{Test}
 use Rattle.book.specs.Book.{Book, All, IsArc, blank, all_paths}
-use Rattle.book.specs.Reading.{framing, content, extended, kind_at, length_at, end_at, count_at, arc_at, window_at, path_at}
+use Rattle.book.specs.Reading.{framing, content, extended, kind_at, length_at, end_at, count_at, arc_at, window_at, path_at, add_path}
 use Rattle.book.specs.declared.Arc.{Arc as Listed}
 use Rattle.listed.specs.Listing.{arc_of}
-use Rattle.content.specs.Content.{Item, an_arc, a_set, a_path, cut, items, add_item}
+use Rattle.content.specs.Content.{Item, an_arc, a_set, a_path, cut, items}
 use Rattle.demands.specs.Conditions.{Condition, asks, AllHold, HasNumber, FirstFails}
 
 -- ---- the conditions of a field, after the book b that the fields before it make
@@ -109,10 +109,17 @@ item_conditions b (a_path p) =
     asks 3 ((2 ≤ length p) × (length p ≤ longest_path)) ∷ asks 4 (All (λ v. v < b.count) p) ∷ asks 6 (length (all_paths b.sets) < most_paths) ∷ []
 item_conditions b cut = asks 3 ⊥ ∷ []
 
+-- The book with an item more. It is said here, so that what is asked of the next item does not follow how items are taken.
+abbrev pub grown : Book → Item → Book
+grown b (an_arc a) = record { count = b.count; arcs = b.arcs ++ (a ∷ []); sets = b.sets }
+grown b (a_set f) = record { count = b.count; arcs = b.arcs; sets = b.sets ++ (record { needs = f; paths = [] } ∷ []) }
+grown b (a_path p) = record { count = b.count; arcs = b.arcs; sets = add_path b.sets p }
+grown b cut = b
+
 -- From an index on, after a book: a bad item, or a good one and a bad one after it: 'the first bad item decides'.
 pub data BadItem : ℕ → List Item → Book → Refusal → Type 0 where
   bad_item : {i : ℕ} {y : Item} {xs : List Item} {b : Book} {x : Refusal} → FirstFails i (item_conditions b y) x → BadItem i (y ∷ xs) b x
-  good_item : {i : ℕ} {y : Item} {xs : List Item} {b : Book} {x : Refusal} → AllHold (item_conditions b y) → BadItem (suc i) xs (add_item b y) x → BadItem i (y ∷ xs) b x
+  good_item : {i : ℕ} {y : Item} {xs : List Item} {b : Book} {x : Refusal} → AllHold (item_conditions b y) → BadItem (suc i) xs (grown b y) x → BadItem i (y ∷ xs) b x
 
 abbrev pub counted_book : ℕ → Book
 counted_book n = record { count = n; arcs = []; sets = [] }
