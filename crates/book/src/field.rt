@@ -1,5 +1,6 @@
 // One field of a book: the tests in their order, and what it adds to the tables.
 ghost use Rattle.std.specs.Prelude.{◌≡◌, true, ◌+◌, ◌≤◌, ◌<◌, length, ok_or, Some, MatchResult};
+ghost use Rattle.std.specs.Prelude.{OnErr};
 ghost use Rattle.dates.specs.Dates.{window_fits};
 ghost use Rattle.limits.specs.Limits.{most_vertices, most_sets, longest_path};
 ghost use Rattle.book.specs.Book.{Book, path_length, are_vertices, proper_arc, is_path};
@@ -127,7 +128,9 @@ pub fn enter_arc(
     weights: &mut [u32; PAIRS],
 ) -> Result<(), Refusal>
     requires { vertices ≤ most_vertices }
-    ensures { (b : Book) → IsGraph b vertices weights.old → Enters b at (arc_of arc) result weights.new }
+    ensures enters { (b : Book) → IsGraph b vertices weights.old
+        → Enters b at (arc_of arc) result weights.new }
+    ensures kept { OnErr result (weights.new ≡ weights.old) }
 {
     if !arc.is_proper(vertices) {
         return Err(Refusal::Value(at));
@@ -212,7 +215,9 @@ pub fn is_path(path: &[u8], vertices: usize) -> bool
 // What a book takes: each tests what it takes, and adds it to the tables. A refusal carries `at`.
 impl Loaded {
     pub fn add_count(&mut self, at: usize, n: usize) -> Result<(), Refusal>
-        ensures { (b : Book) → IsLoaded b self.old → Leaves AreTables (with_count b at n) (left result self.new) }
+        ensures leaves { (b : Book) → IsLoaded b self.old
+            → Leaves AreTables (with_count b at n) (left result self.new) }
+        ensures kept { OnErr result (self.new ≡ self.old) }
     {
         if !(1..=MOST_VERTICES).contains(&n) {
             return Err(Refusal::Value(at));
@@ -224,7 +229,9 @@ impl Loaded {
     pub fn add_arc(&mut self, at: usize, arc: Arc) -> Result<(), Refusal>
         requires few_vertices { self.old.counts.vertices ≤ most_vertices }
         requires countable { self.old.counts.arcs < 0xffff_ffff_ffff_ffff }
-        ensures { (b : Book) → IsLoaded b self.old → Leaves AreTables (with_arc b at (arc_of arc)) (left result self.new) }
+        ensures leaves { (b : Book) → IsLoaded b self.old
+            → Leaves AreTables (with_arc b at (arc_of arc)) (left result self.new) }
+        ensures kept { OnErr result (self.new ≡ self.old) }
     {
         enter_arc(self.counts.vertices, at, arc, &mut self.weights)?;
         self.counts.arcs += 1;
@@ -232,7 +239,9 @@ impl Loaded {
     }
 
     pub fn add_set(&mut self, at: usize, needs: Needs) -> Result<(), Refusal>
-        ensures { (b : Book) → IsLoaded b self.old → Leaves AreTables (with_set b at needs) (left result self.new) }
+        ensures leaves { (b : Book) → IsLoaded b self.old
+            → Leaves AreTables (with_set b at needs) (left result self.new) }
+        ensures kept { OnErr result (self.new ≡ self.old) }
     {
         if !needs.is_valid() {
             return Err(Refusal::Window(at));
@@ -250,7 +259,9 @@ impl Loaded {
         requires short { length path.now ≤ longest_path }
         requires some_set { 1 ≤ self.old.counts.sets }
         requires few_sets { self.old.counts.sets ≤ most_sets }
-        ensures { (b : Book) → IsLoaded b self.old → Leaves AreTables (with_path b at path.now) (left result self.new) }
+        ensures leaves { (b : Book) → IsLoaded b self.old
+            → Leaves AreTables (with_path b at path.now) (left result self.new) }
+        ensures kept { OnErr result (self.new ≡ self.old) }
     {
         if !are_vertices(path, self.counts.vertices) {
             return Err(Refusal::Value(at));
@@ -269,7 +280,10 @@ impl Loaded {
 
     fn vertex_count(&mut self, bytes: &[u8], at: usize) -> Result<(), Refusal>
         requires { at + 4 ≤ length bytes.now }
-        ensures { (b : Book) → IsLoaded b self.old → Leaves AreTables (taken (Some Kind.VertexCount) bytes.now b at) (left result self.new) }
+        ensures leaves { (b : Book) → IsLoaded b self.old
+            → Leaves AreTables (taken (Some Kind.VertexCount) bytes.now b at)
+            (left result self.new) }
+        ensures kept { OnErr result (self.new ≡ self.old) }
     {
         self.add_count(at, usize::from(bytes[at + 3]))
     }
@@ -278,7 +292,9 @@ impl Loaded {
         requires at_in_bounds { at + 9 ≤ length bytes.now }
         requires few_vertices { self.old.counts.vertices ≤ most_vertices }
         requires arcs_before { self.old.counts.arcs ≤ at }
-        ensures { (b : Book) → IsLoaded b self.old → Leaves AreTables (taken (Some Kind.Arc) bytes.now b at) (left result self.new) }
+        ensures leaves { (b : Book) → IsLoaded b self.old
+            → Leaves AreTables (taken (Some Kind.Arc) bytes.now b at) (left result self.new) }
+        ensures kept { OnErr result (self.new ≡ self.old) }
     {
         let arc = Arc {
             tail: usize::from(bytes[at + 3]),
@@ -291,7 +307,9 @@ impl Loaded {
     fn rule_set(&mut self, bytes: &[u8], at: usize) -> Result<(), Refusal>
         requires whole { end_at bytes.now at ≤ length bytes.now }
         requires fit { Reading-fits (Some Kind.RuleSet) (length_at bytes.now at) ≡ true }
-        ensures { (b : Book) → IsLoaded b self.old → Leaves AreTables (taken (Some Kind.RuleSet) bytes.now b at) (left result self.new) }
+        ensures leaves { (b : Book) → IsLoaded b self.old
+            → Leaves AreTables (taken (Some Kind.RuleSet) bytes.now b at) (left result self.new) }
+        ensures kept { OnErr result (self.new ≡ self.old) }
     {
         self.add_set(at, needs_at(bytes, at))
     }
@@ -301,7 +319,9 @@ impl Loaded {
         requires short { length_at bytes.now at ≤ longest_path }
         requires some_set { 1 ≤ self.old.counts.sets }
         requires few_sets { self.old.counts.sets ≤ most_sets }
-        ensures { (b : Book) → IsLoaded b self.old → Leaves AreTables (taken (Some Kind.Path) bytes.now b at) (left result self.new) }
+        ensures leaves { (b : Book) → IsLoaded b self.old
+            → Leaves AreTables (taken (Some Kind.Path) bytes.now b at) (left result self.new) }
+        ensures kept { OnErr result (self.new ≡ self.old) }
     {
         self.add_path(at, &bytes[at + 3..field_end(bytes, at)])
     }
@@ -312,7 +332,9 @@ impl Loaded {
         requires few_vertices { self.old.counts.vertices ≤ most_vertices }
         requires arcs_before { self.old.counts.arcs ≤ at }
         requires few_sets { self.old.counts.sets ≤ most_sets }
-        ensures { (b : Book) → IsLoaded b self.old → LoadedAs (Reading-field bytes.now b at) (left result self.new) }
+        ensures leaves { (b : Book) → IsLoaded b self.old
+            → LoadedAs (Reading-field bytes.now b at) (left result self.new) }
+        ensures kept { OnErr result (self.new ≡ self.old) }
     {
         match frame(bytes, at, self.counts)? {
             Kind::VertexCount => self.vertex_count(bytes, at),

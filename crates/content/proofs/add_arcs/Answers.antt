@@ -20,7 +20,7 @@ returns-in_err-add_arc c b h none =
     let (g, _) = c.loop-k.invariant b h none in
     rw (p.1, p.2)
     (arc_off _ k s c.loop-k.book g (omega (arith, c.loop-k-test.true)) _ (c.arc.ensures ∙ ap arc_in (lent-is (k * 3) s)) _ c.add_arc.new.self
-    c.in_err-add_arc.ensures)
+    c.in_err-add_arc.ensures.leaves)
 
 pub loop-k-preserved : goal.loop-k-preserved
 loop-k-preserved c b h none =
@@ -28,7 +28,7 @@ loop-k-preserved c b h none =
     let k = c.loop-k.k in
     let (g, few) = c.loop-k.invariant b h none in
     let (g', more) =
-    arc_on _ k s c.loop-k.book g (omega (arith, c.loop-k-test.true)) _ (c.arc.ensures ∙ ap arc_in (lent-is (k * 3) s)) c.add_arc.new.self c.in_ok-add_arc.ensures in
+    arc_on _ k s c.loop-k.book g (omega (arith, c.loop-k-test.true)) _ (c.arc.ensures ∙ ap arc_in (lent-is (k * 3) s)) c.add_arc.new.self c.in_ok-add_arc.ensures.leaves in
     (g', omega (arith, few, more))
 
 pub returns-then-s-ne0 : goal.returns-then-s-ne0

@@ -16,4 +16,4 @@ pub returns : goal.returns
 returns c b h some =
     let a = c.args in
     path-loaded b a.i a.book.now h c.add_path.result c.add_path.new.self a.path.now some (sym c.is_path_length.ensures ∙ c.if-not-is_path_length.false)
-    (subst (λ p. Leaves AreTables (with_path b a.i p) (left c.add_path.result c.add_path.new.self)) c.in-Some.ensures (c.add_path.ensures b h.tables))
+    (subst (λ p. Leaves AreTables (with_path b a.i p) (left c.add_path.result c.add_path.new.self)) c.in-Some.ensures (c.add_path.ensures.leaves b h.tables))

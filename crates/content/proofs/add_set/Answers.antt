@@ -9,4 +9,4 @@ pub returns : goal.returns
 returns c b h =
     let (is, flags) = c.in_ok-needs.ensures in
     subst (λ f. LoadedAs (with_item b c.args.i (a_set f)) (left c.add_set.result c.add_set.new.self)) is
-    (set-loaded b c.args.i c.args.book.now h c.add_set.result c.add_set.new.self c.in_ok-needs.needs flags (c.add_set.ensures b h.tables))
+    (set-loaded b c.args.i c.args.book.now h c.add_set.result c.add_set.new.self c.in_ok-needs.needs flags (c.add_set.ensures.leaves b h.tables))

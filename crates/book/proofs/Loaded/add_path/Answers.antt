@@ -4,8 +4,8 @@ use Rattle.std.proofs.lemmas.Slice.{put_mid-paste}
 use Rattle.book.proofs.Added.{path-added}
 use Rattle.book.proofs.Loaded.add_path.Goals as goal
 
-pub returns : goal.returns
-returns c b h =
+pub returns-clause-leaves : goal.returns-clause-leaves
+returns-clause-leaves c b h =
     let a = c.args in
     path-added a.self.now b h a.at a.path.now
     (sym c.are_vertices.ensures ∙ c.if-not-are_vertices.false)

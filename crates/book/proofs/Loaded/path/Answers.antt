@@ -5,9 +5,9 @@ use Rattle.book.specs.Tables.{AreTables, Leaves, left}
 use Rattle.book.proofs.Added.{path_part}
 use Rattle.book.proofs.Loaded.path.Goals as goal
 
-pub returns : goal.returns
-returns c b h =
+pub returns-clause-leaves : goal.returns-clause-leaves
+returns-clause-leaves c b h =
     let a = c.args in
     subst (λ p. Leaves AreTables (with_path b a.at p) (left c.add_path.result c.add_path.new.self))
     (path_part a.bytes.now a.at c.field_end.result c.field_end.ensures c.requires.whole)
-    (c.add_path.ensures b h)
+    (c.add_path.ensures.leaves b h)
