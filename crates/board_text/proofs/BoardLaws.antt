@@ -1,6 +1,6 @@
 -- The text by what is refused, with the lines read off the table of ends; and where it stands.
 use Rattle.std.specs.Prelude.{ℕ, ◌*◌, ◌-◌, ◌≤◌, ◌<◌, ◌≡◌, refl, true, false, length, get_or, take, drop}
-use Rattle.std.proofs.Common.{sym, ap, ap₂, subst, subst₂, ◌∙◌, arith, lt-ltb, le-leb, length-drop}
+use Rattle.std.proofs.Common.{sym, ap, ap₂, subst, subst₂, ◌∙◌, arith, lt-ltb, le-ltb, le-leb, length-drop}
 use Rattle.std.proofs.Math.Seq.{take_all}
 use mathlib.Core.List.{List, [], ◌∷◌, ◌++◌, append-nil, Memᴰ}
 use Rattle.std.proofs.Math.Option.{Option, none, some}
@@ -22,6 +22,7 @@ use Rattle.rules.specs.Binding.{batch_at, known}
 use Rattle.rules.proofs.Laws.{gathered_spells}
 use Rattle.rules.proofs.BindingLaws.{known-few, known-short}
 use Rattle.rules.specs.declared.Batch.{Batch}
+use Rattle.rules.specs.Operations.{date_test}
 use Rattle.arrayvec.specs.ArrayVec.{ArrayVec, array_vec_len}
 use Rattle.text.specs.Text.{longest_text, refusal_text}
 use Rattle.text.proofs.Writing.{Wrote, wrote-front}
@@ -53,12 +54,15 @@ module _ (b : Book) (well : WellFormed b) (batch : Batch) (s : ℕ) where
   book-lines G n table rest paths vertices is =
       ap₂ table_lines (is ∙ ap₂ (λ H m. ends (graph b) H s m ++ rest) paths vertices) vertices ∙ ends-lines (graph b) F s b.count light rest
 
--- ---- in a book that was read: 15, or the lines
+-- ---- in a book that was read: 7, 15, or the lines
 module _ (b : Book) (batch : Batch) (s : ℕ) where
+  pub board_refused : b.count ≤ s → board_of (accepted b) batch s ≡ refusal_text (numbered 7 0)
+  board_refused h = ap (λ x. board_as (refusal_by (test 7 x ∷ date_test batch ∷ [])) b batch s) (le-ltb s b.count h)
+
   board_undated : s < b.count → is_date batch.date ≡ false → board_of (accepted b) batch s ≡ refusal_text (numbered 15 0)
   board_undated h undated = ap₂ (λ x y. board_as (refusal_by (test 7 x ∷ test 15 y ∷ [])) b batch s) (lt-ltb s b.count h) undated
 
-  board_lines : s < b.count → is_date batch.date ≡ true → board_of (accepted b) batch s ≡ lines (graph b) (known batch b.sets) s b.count
+  pub board_lines : s < b.count → is_date batch.date ≡ true → board_of (accepted b) batch s ≡ lines (graph b) (known batch b.sets) s b.count
   board_lines h dated = ap₂ (λ x y. board_as (refusal_by (test 7 x ∷ test 15 y ∷ [])) b batch s) (lt-ltb s b.count h) dated
 
 -- The text for an input that is not refused, from the table of ends of its book.

@@ -10,6 +10,13 @@ use Rattle.lists.specs.Test.{T_and}
 use Rattle.distances.proofs.PassLaws.{passes-least}
 use Rattle.distances.proofs.Rows.{relaxes-kept}
 
+-- the least cost from a state is one number
+pub least_unique : {es : List Edge} {base : List ℕ} {q d d' : ℕ} → Least es base q d → Least es base q d' → d ≡ d'
+least_unique l l' =
+    let (p, r, path, e) = l.attained in
+    let (p', r', path', e') = l'.attained in
+    omega (arith, l.least p' r' path', l'.least p r path)
+
 settled_cons : (e : Edge) (es : List Edge) (t : List ℕ) → T (settled (e ∷ es) t) → (at t e.tail ≤ at t e.head + e.cost) × T (settled es t)
 settled_cons e es t h = let both = T_and (leb (at t e.tail) (at t e.head + e.cost)) (settled es t) h in (leb→le _ _ both.0, both.1)
 

@@ -1,2 +1,3 @@
--- Meaning: Text. TextLaws is in proofs/.
+-- Meaning: Text. Lent (what a text that is written into a lent slice leaves). TextLaws is in proofs/.
+pub mod Lent
 pub mod Text

@@ -1,8 +1,10 @@
-// The writing of text: each function adds to what stands in a buffer of any size that has the room.
+// The writing of text: each function adds to what stands in a buffer of any size that has the room,
+// but `decimal_at`, which writes into a lent slice.
 #![tactic(auto)]
 
 ghost use Rattle.std.specs.Prelude.{◌≡◌, ◌∷◌, ◌++◌, ◌+◌, ◌*◌, ◌<◌, ◌≤◌, length, IfSome};
 ghost use Rattle.arrayvec.specs.ArrayVec.{array_vec_len};
+ghost use Rattle.text.specs.Lent.{StandsAt};
 ghost use Rattle.text.specs.Text.{cost_text, plan_text, refusal_text, found_text};
 ghost use Rattle.text.specs.Text.{decimal as Text-decimal, vertices as Text-vertices, followed as Text-followed};
 
@@ -37,6 +39,17 @@ pub fn decimal<const N: usize>(n: u64, out: &mut ArrayVec<u8, N>)
     ensures written { out.new.items ≡ out.old.items ++ Text-decimal n }
 {
     word(&digits(n), out);
+}
+
+// Writes a number into a slice from the place `at` on, and answers the place after it.
+pub fn decimal_at(n: u64, out: &mut [u8], at: usize) -> usize
+    requires { at + length (Text-decimal n) ≤ length out.old }
+    ensures { StandsAt (Text-decimal n) at out.old result out.new }
+{
+    let text = digits(n);
+    let end = at + text.len();
+    out[at..end].copy_from_slice(&text);
+    end
 }
 
 pub fn word<const N: usize>(s: &[u8], out: &mut ArrayVec<u8, N>)
