@@ -14,13 +14,13 @@ at_set [] q v h = omega arith
 at_set (x ∷ t) zero v h = refl
 at_set (x ∷ t) (suc q) v h = at_set t q v h
 
-relax-tail : (old : List ℕ) (e : Edge) (new : List ℕ) → at (relax old e new) e.tail ≡ min (at new e.tail) (at old e.head + e.cost)
+pub relax-tail : (old : List ℕ) (e : Edge) (new : List ℕ) → at (relax old e new) e.tail ≡ min (at new e.tail) (at old e.head + e.cost)
 relax-tail old e new = at_set new e.tail _ (omega arith)
 
 relax-other : (old : List ℕ) (e : Edge) (new : List ℕ) (q : ℕ) → q ≢ e.tail → at (relax old e new) q ≡ at new q
 relax-other old e new q h = get_or-set_other new e.tail q _ 0 h
 
-relax_le : (old : List ℕ) (e : Edge) (new : List ℕ) (q : ℕ) → at (relax old e new) q ≤ at new q
+pub relax_le : (old : List ℕ) (e : Edge) (new : List ℕ) (q : ℕ) → at (relax old e new) q ≤ at new q
 relax_le old e new q = by_cases (ℕ_discrete q e.tail) same (λ h. omega (arith, relax-other old e new q h))
   where
     same : q ≡ e.tail → at (relax old e new) q ≤ at new q
@@ -37,7 +37,7 @@ relaxes-edge old {e} new (Memᴰ.head {x} {xs} h) =
     rw h (omega (arith, relaxes_le old xs (relax old x new) x.tail, relax-tail old x new))
 relaxes-edge old new (Memᴰ.tail {x} m) = relaxes-edge old (relax old x new) m
 
-relax-from : (old : List ℕ) (e : Edge) (new : List ℕ) (q : ℕ) →
+pub relax-from : (old : List ℕ) (e : Edge) (new : List ℕ) (q : ℕ) →
     (at (relax old e new) q ≡ at new q) ⊎ ((e.tail ≡ q) × (at (relax old e new) q ≡ at old e.head + e.cost))
 relax-from old e new q = by_cases (ℕ_discrete q e.tail) same (λ h. inl (relax-other old e new q h))
   where

@@ -17,7 +17,7 @@ least_unique l l' =
     let (p', r', path', e') = l'.attained in
     omega (arith, l.least p' r' path', l'.least p r path)
 
-settled_cons : (e : Edge) (es : List Edge) (t : List ℕ) → T (settled (e ∷ es) t) → (at t e.tail ≤ at t e.head + e.cost) × T (settled es t)
+pub settled_cons : (e : Edge) (es : List Edge) (t : List ℕ) → T (settled (e ∷ es) t) → (at t e.tail ≤ at t e.head + e.cost) × T (settled es t)
 settled_cons e es t h = let both = T_and (leb (at t e.tail) (at t e.head + e.cost)) (settled es t) h in (leb→le _ _ both.0, both.1)
 
 -- a settled table is one that no edge lowers

@@ -26,7 +26,7 @@ use Rattle.rules.proofs.ValidLaws.{entry-fits}
 use Rattle.rules.proofs.Entries.{blocks_start, all_past, all_here, all-later}
 use Rattle.rules.proofs.Entered.{path-entered, looked_up}
 
-length-spelled : (k : ℕ) (area : List ℕ) → length (spelled k area) ≡ k
+pub length-spelled : (k : ℕ) (area : List ℕ) → length (spelled k area) ≡ k
 length-spelled k area = length-map (blocks k area) path_of ∙ length-blocks k area
 
 -- the first k entries of so many are by the rules, with no path twice, and a blank area has their paths
@@ -77,7 +77,7 @@ module _ {v : ℕ} {area : List ℕ} {count : ℕ} {clean : List ℕ} {k : ℕ} 
       abbrev path : List ℕ
       path = path_of (take 9 (drop (k * 9) area))
 
-      byte_fits : get_or area (k * 9) 0 ≤ 8
+      pub byte_fits : get_or area (k * 9) 0 ≤ 8
       byte_fits = omega (arith, entry-fits v given taken, ap (λ l. get_or l 0 0) given-is, length-byte area (k * 9))
 
       path-is : path ≡ take (get_or area (k * 9) 0) (drop (k * 9 + 1) area)
