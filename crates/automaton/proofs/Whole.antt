@@ -20,10 +20,10 @@ begun {area} {F} {current = current} s b v t room = started b v.rows v.blockeds_
 
 -- The bounds of the states that wait for their rows.
 pub waiting_room : {n first m : ℕ} {steps blockeds fails : List ℕ} → Waiting n first m steps blockeds fails
-    → (first ≤ m) × (n ≤ 64) × (m ≤ most_states) × (m * 64 ≤ length steps) × (m ≤ length blockeds) × ((q : ℕ) → first ≤ q → q < m → get_or fails q 0 < first)
+    → (first ≤ m) × (n ≤ 64) × (m ≤ most_states) × (m * 64 ≤ length steps) × (m ≤ length blockeds) × ((q : ℕ) → first ≤ q → q < m → get_or fails q 0 < first) × (m ≤ length fails)
 waiting_room w =
     let p = w.so_far in
-    (p.ordered.1, p.numbered.bounded.few-vertices, few p, omega (arith, p.room.of_steps, counted p), omega (arith, p.room.of_blockeds, counted p), link-low p)
+    (p.ordered.1, p.numbered.bounded.few-vertices, few p, omega (arith, p.room.of_steps, counted p), omega (arith, p.room.of_blockeds, counted p), link-low p, omega (arith, p.room.of-fails, counted p))
 
 pub onward : {area : List ℕ} {F : List (List ℕ)} {n count l first m : ℕ} {steps blockeds latests fails current : List ℕ} → Spells area count F → Progress F n l count first m m steps blockeds latests fails current
     → Progress F n (l + 1) 0 m m m steps blockeds latests fails current

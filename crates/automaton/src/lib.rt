@@ -6,8 +6,9 @@ ghost use Rattle.limits.specs.Limits.{most_vertices, most_paths, entry_size};
 ghost use Rattle.states.specs.Count.{states_of};
 ghost use Rattle.automaton.specs.Area.{Spells, Bounded, Given};
 ghost use Rattle.automaton.specs.Built.{Built};
-ghost use Rattle.automaton.specs.Progress.{Progress, Reached, Waiting};
+ghost use Rattle.automaton.specs.Progress.{Room, Progress, Reached, Waiting};
 ghost use Rattle.automaton.specs.Rows.{Filled, Singles, Sized, Starts};
+ghost use Rattle.automaton.specs.Lent.{Kept};
 
 use limits::{ENTRY, LONGEST_PATH, MOST_PATHS, MOST_VERTICES};
 use walks::PathArea;
@@ -56,19 +57,28 @@ fn starts(paths: PathArea, current: &mut [u16; MOST_PATHS])
     }
 }
 
-// Each method says that the tables are as long as before (`Sized`): of an array that a loop wrote, a proof no longer knows it.
-impl<const S: usize, const T: usize> Automaton<S, T> {
+// The tables that `build` is lent. Each method says that it leaves the same tables there, each as long
+// as before (`Kept`): of references that a struct holds, a proof knows neither by itself.
+#[derive(Drop)]
+struct Tables<'a> {
+    steps: &'a mut [u16],
+    blocked: &'a mut [u64],
+    latest: &'a mut [u8],
+    fail: &'a mut [u16],
+}
+
+impl Tables<'_> {
     // The single vertices: each steps to each vertex, and none is blocked.
     fn singles(&mut self, vertices: usize)
         requires few_vertices { vertices ≤ most_vertices }
-        requires states_fit { vertices ≤ S }
-        requires steps_fit { vertices * most_vertices ≤ T }
-        ensures singles { Singles vertices vertices self.new.steps self.new.blocked self.new.latest }
-        ensures same_fail { self.new.fail ≡ self.old.fail }
-        ensures sized { Sized S T self.new.steps self.new.blocked self.new.latest self.new.fail }
+        requires steps_fit { vertices * most_vertices ≤ length self.old.steps.now }
+        requires blocked_fit { vertices ≤ length self.old.blocked.now }
+        requires latest_fit { vertices ≤ length self.old.latest.now }
+        ensures singles { Singles vertices vertices self.new.steps.now self.new.blocked.now self.new.latest.now }
+        ensures kept { Kept self.old self.new }
     {
         for q in 0..vertices {
-            single_row(&mut self.steps, q * MOST_VERTICES, vertices);
+            single_row(self.steps, q * MOST_VERTICES, vertices);
             self.blocked[q] = 0;
             self.latest[q] = q as u8;
         }
@@ -76,11 +86,11 @@ impl<const S: usize, const T: usize> Automaton<S, T> {
 
     // The states from `first` on start with the rows and the blocked vertices of their failure links.
     fn rows(&mut self, vertices: usize, first: usize, states: usize)
-        requires { Waiting vertices first states self.old.steps self.old.blocked self.old.fail }
-        ensures filled { (F : List (List ℕ)) (l i : ℕ) (latest current : List ℕ) → length F ≤ i → Progress F vertices l i first first states self.old.steps self.old.blocked latest self.old.fail current → Progress F vertices l i first states states self.new.steps self.new.blocked latest self.new.fail current }
-        ensures same_latest { self.new.latest ≡ self.old.latest }
-        ensures same_fail { self.new.fail ≡ self.old.fail }
-        ensures sized { Sized S T self.new.steps self.new.blocked self.new.latest self.new.fail }
+        requires { Waiting vertices first states self.old.steps.now self.old.blocked.now self.old.fail.now }
+        ensures filled { (F : List (List ℕ)) (l i : ℕ) (latest current : List ℕ) → length F ≤ i → Progress F vertices l i first first states self.old.steps.now self.old.blocked.now latest self.old.fail.now current → Progress F vertices l i first states states self.new.steps.now self.new.blocked.now latest self.new.fail.now current }
+        ensures same_latest { self.new.latest.now ≡ self.old.latest.now }
+        ensures same_fail { self.new.fail.now ≡ self.old.fail.now }
+        ensures kept { Kept self.old self.new }
     {
         for q in first..states {
             let f = self.fail[q] as usize;
@@ -103,9 +113,9 @@ impl<const S: usize, const T: usize> Automaton<S, T> {
         current: &mut [u16; MOST_PATHS],
     ) -> usize
         requires within { i < paths.count }
-        requires reached { Reached paths.bytes.now paths.count level i first first states self.old.steps self.old.blocked self.old.latest self.old.fail current.old }
-        ensures taken { (F : List (List ℕ)) (n : ℕ) → Spells paths.entry.bytes.now paths.entry.count F → Progress F n level i first first states self.old.steps self.old.blocked self.old.latest self.old.fail current.old → Progress F n level (i + 1) first first result self.new.steps self.new.blocked self.new.latest self.new.fail current.new }
-        ensures sized { Sized S T self.new.steps self.new.blocked self.new.latest self.new.fail }
+        requires reached { Reached paths.bytes.now paths.count level i first first states self.old.steps.now self.old.blocked.now self.old.latest.now self.old.fail.now current.old }
+        ensures taken { (F : List (List ℕ)) (n : ℕ) → Spells paths.entry.bytes.now paths.entry.count F → Progress F n level i first first states self.old.steps.now self.old.blocked.now self.old.latest.now self.old.fail.now current.old → Progress F n level (i + 1) first first result self.new.steps.now self.new.blocked.now self.new.latest.now self.new.fail.now current.new }
+        ensures kept { Kept self.old self.new }
     {
         let size = paths.bytes[i * ENTRY] as usize;
         if size <= level {
@@ -139,9 +149,9 @@ impl<const S: usize, const T: usize> Automaton<S, T> {
         first: usize,
         current: &mut [u16; MOST_PATHS],
     ) -> usize
-        requires { Reached paths.bytes.now paths.count level 0 first first first self.old.steps self.old.blocked self.old.latest self.old.fail current.old }
-        ensures taken { (F : List (List ℕ)) (n : ℕ) → Spells paths.entry.bytes.now paths.entry.count F → Progress F n level 0 first first first self.old.steps self.old.blocked self.old.latest self.old.fail current.old → Progress F n level paths.entry.count first first result self.new.steps self.new.blocked self.new.latest self.new.fail current.new }
-        ensures sized { Sized S T self.new.steps self.new.blocked self.new.latest self.new.fail }
+        requires { Reached paths.bytes.now paths.count level 0 first first first self.old.steps.now self.old.blocked.now self.old.latest.now self.old.fail.now current.old }
+        ensures taken { (F : List (List ℕ)) (n : ℕ) → Spells paths.entry.bytes.now paths.entry.count F → Progress F n level 0 first first first self.old.steps.now self.old.blocked.now self.old.latest.now self.old.fail.now current.old → Progress F n level paths.entry.count first first result self.new.steps.now self.new.blocked.now self.new.latest.now self.new.fail.now current.new }
+        ensures kept { Kept self.old self.new }
     {
         let mut states = first;
         for i in 0..paths.count {
@@ -149,9 +159,45 @@ impl<const S: usize, const T: usize> Automaton<S, T> {
         }
         states
     }
+}
 
-    // Builds the automaton of the paths that the area spells, in the front of the tables: the steps of its states, their blocked vertices, and the
-    // vertex at which each stands. Answers how many states there are.
+// Builds the automaton of the paths that the area spells, in the front of lent tables of any lengths:
+// the steps of its states, their blocked vertices, and the vertex at which each stands. `fail` is for
+// their failure links. Answers how many states there are.
+pub fn build(
+    paths: PathArea,
+    vertices: usize,
+    steps: &mut [u16],
+    blocked: &mut [u64],
+    latest: &mut [u8],
+    fail: &mut [u16],
+) -> usize
+    requires given { Given paths.bytes.now paths.count vertices }
+    requires room { Room (states_of vertices paths.count) steps.old blocked.old latest.old fail.old }
+    ensures { (F : List (List ℕ)) → Spells paths.entry.bytes.now paths.entry.count F → Bounded vertices F → Built F vertices result steps.new blocked.new latest.new }
+{
+    let mut current = [0u16; MOST_PATHS];
+    let mut tables = Tables {
+        steps,
+        blocked,
+        latest,
+        fail,
+    };
+    tables.singles(vertices);
+    starts(paths, &mut current);
+    let mut first = vertices;
+    for level in 1..LONGEST_PATH {
+        let states = tables.children(paths, level, first, &mut current);
+        tables.rows(vertices, first, states);
+        first = states;
+    }
+    first
+}
+
+impl<const S: usize, const T: usize> Automaton<S, T> {
+    // Builds the automaton of the paths that the area spells, in the front of its own tables. Answers
+    // how many states there are. It says that the tables keep their sizes (`Sized`): of an array that
+    // a call was lent, a proof no longer knows it.
     pub fn build(&mut self, paths: PathArea, vertices: usize) -> usize
         requires given { Given paths.bytes.now paths.count vertices }
         requires states_fit { states_of vertices paths.count ≤ S }
@@ -159,15 +205,13 @@ impl<const S: usize, const T: usize> Automaton<S, T> {
         ensures built { (F : List (List ℕ)) → Spells paths.entry.bytes.now paths.entry.count F → Bounded vertices F → Built F vertices result self.new.steps self.new.blocked self.new.latest }
         ensures sized { Sized S T self.new.steps self.new.blocked self.new.latest self.new.fail }
     {
-        let mut current = [0u16; MOST_PATHS];
-        self.singles(vertices);
-        starts(paths, &mut current);
-        let mut first = vertices;
-        for level in 1..LONGEST_PATH {
-            let states = self.children(paths, level, first, &mut current);
-            self.rows(vertices, first, states);
-            first = states;
-        }
-        first
+        build(
+            paths,
+            vertices,
+            &mut self.steps,
+            &mut self.blocked,
+            &mut self.latest,
+            &mut self.fail,
+        )
     }
 }

@@ -10,6 +10,7 @@ use Rattle.distances.specs.Table.{passes}
 use Rattle.automaton.specs.Area.{Spells}
 use Rattle.states.specs.Count.{states_of}
 use Rattle.automaton.specs.Built.{Built}
+use Rattle.automaton.specs.Progress.{Room}
 use Rattle.product.specs.Product.{state_edges}
 use Rattle.product.specs.Base.{base, directed}
 use Rattle.routes.specs.Plan.{Prepared, Measured}
@@ -21,6 +22,12 @@ pub record WorkRoom (most s t : ℕ) (table other : List ℕ) : Type 0 where
   pub entries : most ≤ length table
   pub others : most ≤ length other
 
+-- Room for `most` states in lent tables of any lengths: in the automaton's, and in the two tables of distances.
+pub record TablesRoom (most : ℕ) (steps blockeds latests fails table other : List ℕ) : Type 0 where
+  pub automaton : Room most steps blockeds latests fails
+  pub entries : most ≤ length table
+  pub others : most ≤ length other
+
 -- Arrays for s states, as they are made.
 pub blank_work : (most s t : ℕ) → most ≤ s → t ≡ s * most_vertices → WorkRoom most s t (replicate s 0) (replicate s 0)
 blank_work most s t h square = record {
@@ -29,6 +36,18 @@ blank_work most s t h square = record {
   entries = rw length-replicate h;
   others = rw length-replicate h;
 }
+
+-- Lent tables for k states, as they are made.
+pub blank_tables : (most k : ℕ) → most ≤ k
+    → TablesRoom most (replicate (k * most_vertices) 0) (replicate k 0) (replicate k 0) (replicate k 0) (replicate k 0) (replicate k 0)
+blank_tables most k h = record {
+  automaton = record { of_steps = rw length-replicate (omega arith); of_blockeds = short; of-latests = short; of-fails = short };
+  entries = short;
+  others = short;
+}
+  where
+    short : most ≤ length {A = ℕ} (replicate k 0)
+    short = rw length-replicate h
 
 -- The tables that were built, with the front of a table for the distances of their states.
 module _ {paths : List ℕ} {count vertices m : ℕ} {F : List (List ℕ)} {steps blockeds latests : List ℕ} (spells : Spells paths count F) (built : Built F vertices m steps blockeds latests) where
