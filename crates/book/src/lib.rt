@@ -190,23 +190,33 @@ impl Loaded {
         }
         Ok(())
     }
+
+    // Reads a book into tables in which nothing stands yet, or answers its refusal.
+    pub fn read(&mut self, bytes: &[u8]) -> Result<(), Refusal>
+        requires nothing_read { Blank self.old }
+        ensures { LoadedAs (reading bytes.now) (left result self.new) }
+    {
+        if bytes.is_empty() {
+            return Err(Refusal::Truncated(0));
+        }
+        self.fields(bytes)
+    }
 }
 
 // Reads a book: its counts, or its refusal.
 pub fn read(bytes: &[u8]) -> Result<Counts, Refusal>
     ensures { result ≡ read_as (reading bytes.now) }
 {
-    load(bytes).map(|book| book.counts)
+    let mut book = Loaded::blank();
+    book.read(bytes)?;
+    Ok(book.counts)
 }
 
 // Reads a book into its counts and tables, or answers its refusal.
 pub fn load(bytes: &[u8]) -> Result<Loaded, Refusal>
     ensures { LoadedAs (reading bytes.now) result }
 {
-    if bytes.is_empty() {
-        return Err(Refusal::Truncated(0));
-    }
     let mut book = Loaded::blank();
-    book.fields(bytes)?;
+    book.read(bytes)?;
     Ok(book)
 }

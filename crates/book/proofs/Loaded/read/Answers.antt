@@ -1,7 +1,7 @@
 -- The empty book is refused.
 use Rattle.std.proofs.Common.{◌≡◌, length, refl, rules}
 use Rattle.book.proofs.Loop.{nothing}
-use Rattle.book.proofs.load.Goals as goal
+use Rattle.book.proofs.Loaded.read.Goals as goal
 
 pub returns-then-is_empty : goal.returns-then-is_empty
 returns-then-is_empty c =
