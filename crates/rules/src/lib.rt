@@ -10,7 +10,7 @@ mod binding;
 
 pub use area::{entry, valid};
 pub use binding::gather;
-use book::Refusal;
+use book::{Loaded, Refusal};
 use dates::Date;
 use limits::AREA;
 
@@ -43,7 +43,8 @@ pub fn bind(bytes: &[u8], batch: Batch, area: &mut [u8]) -> Result<usize, Refusa
     ensures answered { result ≡ bound_as (binding bytes.now batch area.old) }
     ensures filled { area.new ≡ area_after (binding bytes.now batch area.old) area.old }
 {
-    let book = book::load(bytes)?;
+    let mut book = Loaded::blank();
+    book.read(bytes)?;
     if area.len() < AREA {
         return Err(Refusal::Area);
     }

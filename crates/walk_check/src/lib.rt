@@ -6,7 +6,7 @@ ghost use Rattle.walk_check.specs.Checking.{checking};
 
 mod walk;
 
-use book::Refusal;
+use book::{Loaded, Refusal};
 use limits::AREA;
 pub use walk::{first_occurrence, is_walk};
 use walks::PathArea;
@@ -28,7 +28,8 @@ pub fn check(
 ) -> Result<Option<Occurrence>, Refusal>
     ensures { result ≡ checking bytes.now area.now count walk.now }
 {
-    let book = book::load(bytes)?;
+    let mut book = Loaded::blank();
+    book.read(bytes)?;
     if area.len() < AREA {
         return Err(Refusal::Area);
     }
