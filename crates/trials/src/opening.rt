@@ -23,7 +23,8 @@ pub fn begin(
 ) -> Result<Record, Refusal>
     ensures { answering result paths.new walk.new ≡ beginning bytes.now batch start end paths.old walk.old }
 {
-    let book = book::load(bytes)?;
+    let mut book = Loaded::blank();
+    book.read(bytes)?;
     begin_in(&book, batch, start, end, paths, walk)
 }
 

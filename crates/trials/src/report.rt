@@ -12,7 +12,7 @@ ghost use Rattle.trials.specs.Operations.{answering, rejected_as, reporting_of, 
 ghost use Rattle.judging.specs.Judging.{report_tests};
 
 use crate::Rejected;
-use book::Refusal;
+use book::{Loaded, Refusal};
 use judging::{judge, judge_named};
 use limits::ENTRY;
 use trial_record::Record;
@@ -37,7 +37,8 @@ pub fn report_passed(
 fn accept_passed(bytes: &[u8], rec: Record, paths: &[u8], walk: &[u8]) -> Result<Record, Refusal>
     ensures { answering (rejected_as rec result) paths.now walk.now ≡ reporting bytes.now rec paths.now walk.now passed }
 {
-    let book = book::load(bytes)?;
+    let mut book = Loaded::blank();
+    book.read(bytes)?;
     judge(book.arcs(), rec, paths, walk)?;
     Ok(rec.passed())
 }
@@ -68,7 +69,8 @@ fn accept_failed(
 ) -> Result<Record, Refusal>
     ensures { answering (rejected_as rec result) paths.new walk.new ≡ reporting bytes.now rec paths.old walk.old (failed named.now) }
 {
-    let book = book::load(bytes)?;
+    let mut book = Loaded::blank();
+    book.read(bytes)?;
     let arcs = book.arcs();
     judge(arcs, rec, paths, walk)?;
     judge_named(arcs, rec, walk, named)?;
